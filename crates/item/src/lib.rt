@@ -1,0 +1,117 @@
+// Items: a code byte and 32 bytes. The class of a code, and equality over all 33 bytes.
+ghost use mathlib.Core.Path.{_≡_};
+ghost use Rattle.lists.specs.Lists.{sameNumbers};
+ghost use Rattle.item.specs.Item.{classOf, fitsOf, basicOf, transferableOf, sameItem, zeroItem, isZero};
+
+pub struct Item {
+    pub code: u8,
+    pub raw: [u8; 32],
+}
+
+pub enum Class {
+    NonTransferableKey,
+    TransferableKey,
+    Digest,
+    Bad,
+}
+
+// What a place of a record asks of its item.
+pub enum Kind {
+    Prefix,
+    Key,
+    Said,
+}
+
+pub fn classify(code: u8) -> Class
+    ensures { λ r. ⌜ r ≡ classOf code ⌝ }
+{
+    match code {
+        b'B' => Class::NonTransferableKey,
+        b'D' => Class::TransferableKey,
+        b'E'..=b'I' => Class::Digest,
+        _ => Class::Bad,
+    }
+}
+
+pub fn fits(code: u8, kind: Kind) -> bool
+    ensures { λ r. ⌜ r ≡ fitsOf kind code ⌝ }
+{
+    let class = classify(code);
+    match kind {
+        Kind::Prefix => match class {
+            Class::NonTransferableKey => true,
+            Class::TransferableKey => true,
+            Class::Digest => true,
+            Class::Bad => false,
+        },
+        Kind::Key => is_basic(code),
+        Kind::Said => match class {
+            Class::NonTransferableKey => false,
+            Class::TransferableKey => false,
+            Class::Digest => true,
+            Class::Bad => false,
+        },
+    }
+}
+
+pub fn is_basic(code: u8) -> bool
+    ensures { λ r. ⌜ r ≡ basicOf code ⌝ }
+{
+    match classify(code) {
+        Class::NonTransferableKey => true,
+        Class::TransferableKey => true,
+        Class::Digest => false,
+        Class::Bad => false,
+    }
+}
+
+pub fn is_transferable(code: u8) -> bool
+    ensures { λ r. ⌜ r ≡ transferableOf code ⌝ }
+{
+    match classify(code) {
+        Class::NonTransferableKey => false,
+        Class::TransferableKey => true,
+        Class::Digest => true,
+        Class::Bad => false,
+    }
+}
+
+fn same_raw(a: [u8; 32], b: [u8; 32]) -> bool
+    ensures { λ r. ⌜ r ≡ sameNumbers a b ⌝ }
+{
+    let mut i: usize = 0;
+    while i < 32 {
+        if a[i] != b[i] {
+            return false;
+        }
+        i += 1;
+    }
+    true
+}
+
+pub fn same(a: Item, b: Item) -> bool
+    ensures { λ r. ⌜ r ≡ sameItem a b ⌝ }
+{
+    if a.code != b.code {
+        return false;
+    }
+    let x = a.raw;
+    let y = b.raw;
+    same_raw(x, y)
+}
+
+pub fn zero() -> Item
+    ensures { λ r. ⌜ r ≡ zeroItem ⌝ }
+{
+    Item {
+        code: 0,
+        raw: [0u8; 32],
+    }
+}
+
+pub fn is_zero(x: Item) -> bool
+    ensures { λ r. ⌜ r ≡ isZero x ⌝ }
+{
+    let z = zero();
+    same(z, x)
+}

@@ -1,0 +1,58 @@
+-- Facts about whole lists: what a test that came out true says, searches against `any`, and appended lists. Assumes nothing.
+use mathlib.Core.Path.{_≡_, refl, sym, _∙_, ap}
+use mathlib.Core.List.{List, [], _∷_, _++_}
+use mathlib.Core.Bool.{Bool, true, false}
+use Prim.Native.Nat.{ℕ, _+_}
+use native.Mathlib.Omega.{arith}
+use lib.Dec.{eqb}
+use borrow.Author.Tests.{eqb-true, eq-eqb}
+use Rattle.lists.specs.Lists.{pick, both, either, any, all, firstFrom, sameNumbers, isAt}
+use Rattle.lists.specs.declared.Found.{Found}
+use Rattle.lists.specs.declared.Found.the-variants.{At, Nothing}
+
+-- true is not false
+pub clash : {A : Type 0} → true ≡ false → A
+clash e = let z : _≡_ {A = ℕ} 0 1 = cc in absurd (omega arith)
+
+pub both-true : (a b : Bool) → both a b ≡ true → (a ≡ true) × (b ≡ true)
+both-true true b e = (refl, e)
+both-true false b e = clash (sym e)
+
+pub both-in : (a b : Bool) → a ≡ true → b ≡ true → both a b ≡ true
+both-in a b p q = rw (p, q)
+
+-- a search ends at a place exactly where some element has the property
+pick-is : (b : Bool) (k : ℕ) (f : Found) (m : Bool) → isAt f ≡ m → isAt (pick b (At k) f) ≡ either b m
+pick-is true k f m e = refl
+pick-is false k f m e = e
+
+pub first-any : {A : Type 0} (f : A → Bool) (k : ℕ) (xs : List A) → isAt (firstFrom f k xs) ≡ any f xs
+unfolding firstFrom any
+first-any f k [] = refl
+first-any f k (x ∷ xs) = pick-is (f x) k (firstFrom f (k + 1) xs) (any f xs) (first-any f (k + 1) xs)
+
+either-assoc : (a b c : Bool) → either a (either b c) ≡ either (either a b) c
+either-assoc true b c = refl
+either-assoc false b c = refl
+
+pub any-append : {A : Type 0} (f : A → Bool) (xs ys : List A) → any f (xs ++ ys) ≡ either (any f xs) (any f ys)
+unfolding any
+any-append f [] ys = refl
+any-append f (x ∷ xs) ys = ap (either (f x)) (any-append f xs ys) ∙ either-assoc (f x) (any f xs) (any f ys)
+
+-- equal numbers all along are one list, and a list is the same as itself
+pub same-numbers : (xs ys : List ℕ) → sameNumbers xs ys ≡ true → xs ≡ ys
+unfolding sameNumbers
+same-numbers [] [] e = refl
+same-numbers [] (y ∷ ys) e = clash (sym e)
+same-numbers (x ∷ xs) [] e = clash (sym e)
+same-numbers (x ∷ xs) (y ∷ ys) e =
+    let p = both-true (eqb x y) (sameNumbers xs ys) e in
+    let h : x ≡ y = eqb-true x y (p .0) in
+    let t : xs ≡ ys = same-numbers xs ys (p .1) in
+    cc
+
+pub same-refl : (xs : List ℕ) → sameNumbers xs xs ≡ true
+unfolding sameNumbers
+same-refl [] = refl
+same-refl (x ∷ xs) = rw (eq-eqb x x refl) (same-refl xs)

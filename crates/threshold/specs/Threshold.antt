@@ -1,0 +1,135 @@
+-- Thresholds, by document 01: "A threshold is tag 0 and a u64, or tag 1, a clause count byte, a size byte per clause, then
+-- the weights as numerator u64 and denominator u64."
+use Prim.Native.Nat.{ℕ, _+_, _*_, _^_}
+use mathlib.Core.List.{List, [], _∷_}
+use mathlib.Core.Bool.{Bool, true, false}
+use lib.Dec.{eqb, ltb, leb}
+use lib.ListN.{length, take, drop}
+use Rattle.lists.specs.Lists.{pick, both, any, all}
+use Rattle.answer.specs.declared.Answer.{Answer}
+use Rattle.answer.specs.Answer.{refused, accepted, firstRefusal}
+use Rattle.places.specs.Places.{among}
+use Rattle.threshold.specs.declared.Weight.{Weight}
+use Rattle.threshold.specs.declared.Threshold.{Threshold}
+use Rattle.threshold.specs.declared.Sum.{Sum}
+use Rattle.threshold.specs.declared.Sum.the-variants.{At, Failed}
+use Rattle.threshold.specs.declared.Judgement.{Judgement}
+use Rattle.threshold.specs.declared.Judgement.the-variants.{Met, Short}
+
+abbrev pub isSimple : Threshold → Bool
+isSimple t = eqb (t .tag) 0
+
+-- the sizes of the clauses, how many weights they have, and the clauses themselves
+abbrev pub sizesOf : Threshold → List ℕ
+sizesOf t = take (t .clauses) (t .sizes)
+
+unfoldable pub sum : List ℕ → ℕ
+sum [] = 0
+sum (n ∷ ns) = n + sum ns
+
+abbrev pub weightsIn : Threshold → ℕ
+weightsIn t = sum (sizesOf t)
+
+unfoldable pub runs : List ℕ → List Weight → List (List Weight)
+runs [] ws = []
+runs (n ∷ ns) ws = take n ws ∷ runs ns (drop n ws)
+
+abbrev pub clausesOf : Threshold → List (List Weight)
+clausesOf t = runs (sizesOf t) (t .weights)
+
+-- ---- Shape of the struct. "4 for a count above its limit (for weights, at the size byte that passes 16)"; "under tag 0
+-- every clause place is unused, a clause count too; under tag 1 the simple number is"; an unused place that isn't zero is 3.
+abbrev pub zeroWeight : Weight → Bool
+zeroWeight w = both (eqb (w .num) 0) (eqb (w .den) 0)
+
+-- nothing is used from the clause s and the weight w on
+abbrev pub restZero : Threshold → ℕ → ℕ → Bool
+restZero t s w = both (all (eqb 0) (drop s (t .sizes))) (all zeroWeight (drop w (t .weights)))
+
+unfoldable pub shapeOf : Threshold → ℕ
+shapeOf t =
+    pick (isSimple t) (pick (both (eqb (t .clauses) 0) (restZero t 0 0)) 0 3)
+    (pick (eqb (t .tag) 1)
+    (pick (both (leb (t .clauses) 16) (leb (weightsIn t) 16))
+    (pick (both (eqb (t .simple) 0) (restZero t (t .clauses) (weightsIn t))) 0 3)
+    4)
+    3)
+
+-- ---- "Threshold shape: Simple 0 is 23, above the key count 24. Weighted: no clauses 25, an empty clause 26, more weights
+-- than keys 24." 24's details: required, keys.
+abbrev pub atMost : ℕ → ℕ → Answer
+atMost required keys = pick (leb required keys) accepted (refused 24 required keys)
+
+unfoldable pub wellFormed : Threshold → ℕ → Answer
+wellFormed t keys =
+    pick (isSimple t)
+    (pick (eqb (t .simple) 0) (refused 23 0 0) (atMost (t .simple) keys))
+    (pick (eqb (t .clauses) 0) (refused 25 0 0)
+    (pick (any (eqb 0) (sizesOf t)) (refused 26 0 0) (atMost (weightsIn t) keys)))
+
+-- ---- "A clause adds signed weights left to right in checked u64; a zero denominator anywhere, signed or not, fails it."
+-- a result in u64, or failed
+abbrev pub checked : ℕ → (ℕ → Sum) → Sum
+checked n k = pick (ltb n (2 ^ 64)) (k n) Failed
+
+unfoldable pub plus : Sum → Weight → Sum
+plus (At n d) w = checked (n * w .den) (λ l. checked (w .num * d) (λ r. checked (l + r) (λ num. checked (d * w .den) (λ den. At num den))))
+plus Failed w = Failed
+
+unfoldable pub weigh : Bool → Sum → Weight → Sum
+weigh signed s w = pick (eqb (w .den) 0) Failed (pick signed (plus s w) s)
+
+-- the clause's places are k, k + 1, ..
+unfoldable pub sumFrom : (ℕ → Bool) → ℕ → Sum → List Weight → Sum
+sumFrom signed k s [] = s
+sumFrom signed k s (w ∷ ws) = sumFrom signed (k + 1) (weigh (signed k) s w) ws
+
+abbrev pub reachesOne : Sum → Bool
+reachesOne (At n d) = leb d n
+reachesOne Failed = false
+
+-- clause after clause: each owns the next run of places, and the first that is not reached is short
+unfoldable pub judgedFrom : (ℕ → Bool) → ℕ → ℕ → List (List Weight) → Judgement
+judgedFrom signed number base [] = Met
+judgedFrom signed number base (c ∷ cs) =
+    pick (reachesOne (sumFrom signed base (At 0 1) c)) (judgedFrom signed (number + 1) (base + length c) cs) (Short number)
+
+-- the judgement over a set of places: how many there are, and which
+unfoldable pub judged : Threshold → ℕ → (ℕ → Bool) → Judgement
+judged t count signed =
+    pick (isSimple t)
+    (pick (leb (t .simple) count) Met (Short 0))
+    (pick (eqb (t .clauses) 0) (Short 0) (judgedFrom signed 1 0 (clausesOf t)))
+
+abbrev pub isMet : Judgement → Bool
+isMet Met = true
+isMet (Short k) = false
+
+-- a list without repeats is a set of places
+abbrev pub satisfied : Threshold → List ℕ → Bool
+satisfied t places = isMet (judged t (length places) (among places))
+
+-- ---- "`satisfied_by_sorted_unique` says no to a list that isn't strictly rising; `satisfied_by` sorts and removes repeats."
+-- The Rust 'fails closed on any unrepresentable case': so does a struct of bad shape.
+unfoldable pub risingAfter : ℕ → List ℕ → Bool
+risingAfter x [] = true
+risingAfter x (y ∷ ys) = both (ltb x y) (risingAfter y ys)
+
+abbrev pub rising : List ℕ → Bool
+rising [] = true
+rising (x ∷ xs) = risingAfter x xs
+
+-- put into a rising list, where it is not there yet
+unfoldable pub insert : ℕ → List ℕ → List ℕ
+insert x [] = x ∷ []
+insert x (y ∷ ys) = pick (ltb x y) (x ∷ y ∷ ys) (pick (eqb x y) (y ∷ ys) (y ∷ insert x ys))
+
+unfoldable pub sortedUnique : List ℕ → List ℕ
+sortedUnique [] = []
+sortedUnique (x ∷ xs) = insert x (sortedUnique xs)
+
+unfoldable pub satisfiedBySortedUnique : Threshold → List ℕ → Bool
+satisfiedBySortedUnique t ps = both (eqb (shapeOf t) 0) (both (rising ps) (satisfied t ps))
+
+abbrev pub satisfiedBy : Threshold → List ℕ → Bool
+satisfiedBy t ps = satisfiedBySortedUnique t (sortedUnique ps)
