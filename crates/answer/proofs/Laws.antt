@@ -7,10 +7,10 @@ use Rattle.answer.specs.declared.Answer.{Answer}
 use Rattle.answer.specs.Answer.{firstRefusal}
 
 -- a check that passes leaves the answer to those behind it; one that refuses gives it
-pub passed : (x : Answer) (xs : List Answer) → x .no ≡ 0 → firstRefusal (x ∷ xs) ≡ firstRefusal xs
+pub passed : (x : Answer) (xs : List Answer) → x .number ≡ 0 → firstRefusal (x ∷ xs) ≡ firstRefusal xs
 unfolding firstRefusal
-passed x xs e = rw (eq-eqb (x .no) 0 e)
+passed x xs e = rw (eq-eqb (x .number) 0 e)
 
-pub stopped : (x : Answer) (xs : List Answer) → (x .no ≡ 0 → ⊥) → firstRefusal (x ∷ xs) ≡ x
+pub stopped : (x : Answer) (xs : List Answer) → (x .number ≡ 0 → ⊥) → firstRefusal (x ∷ xs) ≡ x
 unfolding firstRefusal
-stopped x xs e = rw (ne-eqb (x .no) 0 e)
+stopped x xs e = rw (ne-eqb (x .number) 0 e)

@@ -9,13 +9,20 @@ use Rattle.number.specs.Number.{small}
 use Rattle.answer.specs.declared.Answer.{Answer}
 
 abbrev pub refused : ℕ → ℕ → ℕ → Answer
-refused no a b = record { no = no; a = small a; b = small b }
+refused which a b = record { number = which; a = small a; b = small b }
 
 abbrev pub accepted : Answer
 accepted = refused 0 0 0
 
+-- a check: a refusal where a fault is found, or unless all is good
+abbrev pub refuseIf : Bool → Answer → Answer
+refuseIf fault x = pick fault x accepted
+
+abbrev pub refuseUnless : Bool → Answer → Answer
+refuseUnless good x = pick good accepted x
+
 abbrev pub passes : Answer → Bool
-passes x = eqb (x .no) 0
+passes x = eqb (x .number) 0
 
 -- "The checks in order": the first that refuses gives the answer
 unfoldable pub firstRefusal : List Answer → Answer

@@ -4,7 +4,7 @@ ghost use Rattle.answer.specs.Answer.{refused, accepted};
 use number::Number;
 
 pub struct Answer {
-    pub no: u8,
+    pub number: u8,
     pub a: Number,
     pub b: Number,
 }
@@ -15,10 +15,14 @@ pub fn accept() -> Answer
     refuse(0, 0, 0)
 }
 
-pub fn refuse(no: u8, a: u64, b: u64) -> Answer
-    ensures { λ r. ⌜ r ≡ refused no a b ⌝ }
+pub fn refuse(which: u8, a: u64, b: u64) -> Answer
+    ensures { λ r. ⌜ r ≡ refused which a b ⌝ }
 {
     let x = number::from_u64(a);
     let y = number::from_u64(b);
-    Answer { no: no, a: x, b: y }
+    Answer {
+        number: which,
+        a: x,
+        b: y,
+    }
 }

@@ -1,6 +1,6 @@
 -- Thresholds, by document 01: "A threshold is tag 0 and a u64, or tag 1, a clause count byte, a size byte per clause, then
 -- the weights as numerator u64 and denominator u64."
-use Prim.Native.Nat.{ℕ, _+_, _*_, _^_}
+use Prim.Native.Nat.{ℕ, _+_}
 use mathlib.Core.List.{List, [], _∷_}
 use mathlib.Core.Bool.{Bool, true, false}
 use lib.Dec.{eqb, ltb, leb}
@@ -8,11 +8,11 @@ use lib.ListN.{length, take, drop}
 use Rattle.lists.specs.Lists.{pick, both, any, all}
 use Rattle.answer.specs.declared.Answer.{Answer}
 use Rattle.answer.specs.Answer.{refused, accepted, firstRefusal}
+use Rattle.weight.specs.declared.Weight.{Weight}
+use Rattle.weight.specs.declared.Sum.{Sum}
+use Rattle.weight.specs.Weight.{weigh, noSum, reachesOne, zeroWeight}
 use Rattle.places.specs.Places.{among}
-use Rattle.threshold.specs.declared.Weight.{Weight}
 use Rattle.threshold.specs.declared.Threshold.{Threshold}
-use Rattle.threshold.specs.declared.Sum.{Sum}
-use Rattle.threshold.specs.declared.Sum.the-variants.{At, Failed}
 use Rattle.threshold.specs.declared.Judgement.{Judgement}
 use Rattle.threshold.specs.declared.Judgement.the-variants.{Met, Short}
 
@@ -39,9 +39,6 @@ clausesOf t = runs (sizesOf t) (t .weights)
 
 -- ---- Shape of the struct. "4 for a count above its limit (for weights, at the size byte that passes 16)"; "under tag 0
 -- every clause place is unused, a clause count too; under tag 1 the simple number is"; an unused place that isn't zero is 3.
-abbrev pub zeroWeight : Weight → Bool
-zeroWeight w = both (eqb (w .num) 0) (eqb (w .den) 0)
-
 -- nothing is used from the clause s and the weight w on
 abbrev pub restZero : Threshold → ℕ → ℕ → Bool
 restZero t s w = both (all (eqb 0) (drop s (t .sizes))) (all zeroWeight (drop w (t .weights)))
@@ -67,32 +64,17 @@ wellFormed t keys =
     (pick (eqb (t .clauses) 0) (refused 25 0 0)
     (pick (any (eqb 0) (sizesOf t)) (refused 26 0 0) (atMost (weightsIn t) keys)))
 
--- ---- "A clause adds signed weights left to right in checked u64; a zero denominator anywhere, signed or not, fails it."
--- a result in u64, or failed
-abbrev pub checked : ℕ → (ℕ → Sum) → Sum
-checked n k = pick (ltb n (2 ^ 64)) (k n) Failed
-
-unfoldable pub plus : Sum → Weight → Sum
-plus (At n d) w = checked (n * w .den) (λ l. checked (w .num * d) (λ r. checked (l + r) (λ num. checked (d * w .den) (λ den. At num den))))
-plus Failed w = Failed
-
-unfoldable pub weigh : Bool → Sum → Weight → Sum
-weigh signed s w = pick (eqb (w .den) 0) Failed (pick signed (plus s w) s)
-
+-- ---- The sum of a clause: weights at signed places are added, the others only looked at for a zero denominator.
 -- the clause's places are k, k + 1, ..
 unfoldable pub sumFrom : (ℕ → Bool) → ℕ → Sum → List Weight → Sum
 sumFrom signed k s [] = s
 sumFrom signed k s (w ∷ ws) = sumFrom signed (k + 1) (weigh (signed k) s w) ws
 
-abbrev pub reachesOne : Sum → Bool
-reachesOne (At n d) = leb d n
-reachesOne Failed = false
-
 -- clause after clause: each owns the next run of places, and the first that is not reached is short
 unfoldable pub judgedFrom : (ℕ → Bool) → ℕ → ℕ → List (List Weight) → Judgement
 judgedFrom signed number base [] = Met
 judgedFrom signed number base (c ∷ cs) =
-    pick (reachesOne (sumFrom signed base (At 0 1) c)) (judgedFrom signed (number + 1) (base + length c) cs) (Short number)
+    pick (reachesOne (sumFrom signed base noSum c)) (judgedFrom signed (number + 1) (base + length c) cs) (Short number)
 
 -- the judgement over a set of places: how many there are, and which
 unfoldable pub judged : Threshold → ℕ → (ℕ → Bool) → Judgement

@@ -1,8 +1,5 @@
 // Signing thresholds: a simple number, or clauses of weights. Their shape, whether they are well formed, and who satisfies them.
-pub struct Weight {
-    pub num: u64,
-    pub den: u64,
-}
+use weight::Weight;
 
 // Tag 0 is simple, tag 1 weighted: clause after clause, each with the size that stands in `sizes`, in one run of weights.
 pub struct Threshold {
@@ -11,12 +8,6 @@ pub struct Threshold {
     pub clauses: usize,
     pub sizes: [u8; 16],
     pub weights: [Weight; 16],
-}
-
-// A clause's sum so far, or that it failed: an overflow of u64, or a zero denominator.
-pub enum Sum {
-    At(u64, u64),
-    Failed,
 }
 
 // Satisfied, or short: at the first clause that is not reached, counted from 1, or 0 where there is none to name.
