@@ -1,6 +1,6 @@
 -- Searches along a witness list, its checks in order, and the two passes of an update. Assumes nothing.
 --     found-, repeat-     a search at a place: here, on to the next, none left
---     stop, pass, last    the checks in order, one at a time; grouped: a group of them is one
+--     stop, pass, last    the checks in order, one at a time; searched: one by a search; grouped: a group of them is one
 --     grown-, Kept, Joined, update-   the list on its way through an update
 use mathlib.Core.Path.{_≡_, refl, sym, _∙_, ap}
 use mathlib.Core.Bool.{Bool, true, false, not}
@@ -12,11 +12,11 @@ use lib.Dec.{ltb, eqb}
 use lib.ListN.{length, take, drop, getD, set, length-take, length-append, drop-of-length-le}
 use lib.Seq.{take-all, take-take, take-append-le, take-suc, getD-take}
 use borrow.Author.Tests.{lt-ltb, le-ltb, ltb-true, ltb-false, le-leb, lt-leb, eqb-true, ne-eqb}
-use Rattle.lists.specs.Lists.{pick, either, any, filter, firstFrom, padded}
+use Rattle.lists.specs.Lists.{pick, either, any, filter, firstFrom, isAt, padded}
 use Rattle.lists.specs.declared.Found.{Found}
 use Rattle.lists.specs.declared.Found.the-variants.{At, Nothing}
 use Rattle.lists.proofs.Walks.{head-at, used-end, first-here, first-next, first-end, filter-in, filter-out, filter-end}
-use Rattle.lists.proofs.Facts.{any-append}
+use Rattle.lists.proofs.Facts.{first-any, any-append}
 use Rattle.lists.proofs.Padding.{padded-push}
 use Rattle.item.specs.declared.Item.{Item}
 use Rattle.item.specs.Item.{sameItem, zeroItem}
@@ -28,8 +28,8 @@ use Rattle.answer.specs.declared.Answer.{Answer}
 use Rattle.answer.specs.Answer.{refused, accepted, refuseIf, firstRefusal, passes}
 use Rattle.answer.proofs.Laws.{passed, stopped}
 use Rattle.member_set.specs.declared.Change.{Change}
-use Rattle.member_set.specs.Members.{repeatFrom, absent, joined, updated, changeOf}
-use Rattle.member_set.specs.Parts.{grown, pushed}
+use Rattle.member_set.specs.Members.{repeatFrom, absent, duplicate, transferable, overlap, notCurrent, present, changeFaults, joined, updated, changeOf}
+use Rattle.member_set.specs.Parts.{deltaFaults, staticFaults, grown, pushed}
 
 -- ---- searches along the used part of an array
 pub used-all : {A : Type 0} (places : List A) (n m : ℕ) → length places ≤ m → m ≤ n → take m places ≡ take n places
@@ -37,7 +37,8 @@ used-all places n m h g =
     let k : length places ≤ n = omega arith in
     rw (take-all m places h, take-all n places k)
 
-last-at : {A : Type 0} (d : A) (places : List A) (n i : ℕ) → i < n → i < length places
+-- the element at a place stands last in what is passed
+pub last-at : {A : Type 0} (d : A) (places : List A) (n i : ℕ) → i < n → i < length places
     → take (i + 1) (take n places) ≡ take i (take n places) ++ (getD places i d ∷ [])
 last-at d places n i hn hi =
     let h : i < length (take n places) = simp length-take (omega arith) in
@@ -87,10 +88,18 @@ module _ {a x : Answer} (xs : List Answer) (e : a ≡ x) where
   pub pass : {r : Answer} → a .number ≡ 0 → r ≡ firstRefusal xs → r ≡ firstRefusal (x ∷ xs)
   pass h t = let g : x .number ≡ 0 = rw e at h in t ∙ sym (passed x xs g)
 
-pub last : (f : Bool) (n a b : ℕ) → 0 < n → firstRefusal (refuseIf f (refused n a b) ∷ []) ≡ refuseIf f (refused n a b)
+alone : (f : Bool) (n a : ℕ) → 0 < n → refuseIf f (refused n a 0) ≡ firstRefusal (refuseIf f (refused n a 0) ∷ [])
 unfolding firstRefusal
-last true n a b h = rw (ne-eqb n 0 (λ (e : n ≡ 0). omega arith))
-last false n a b h = refl
+alone true n a h = rw (ne-eqb n 0 (λ (e : n ≡ 0). omega arith))
+alone false n a h = refl
+
+pub last : {r : Answer} (f : Bool) (n a : ℕ) → 0 < n → r ≡ refuseIf f (refused n a 0) → r ≡ firstRefusal (refuseIf f (refused n a 0) ∷ [])
+last f n a h e = e ∙ alone f n a h
+
+-- a check that refuses where a search ends at a place
+pub searched : {A : Type 0} {r : Answer} {found : Found} (f : A → Bool) (xs : List A) (x : Answer) → found ≡ firstFrom f 0 xs
+    → r ≡ refuseIf (isAt found) x → r ≡ refuseIf (any f xs) x
+searched f xs x e g = g ∙ ap (λ (b : Bool). refuseIf b x) (ap isAt e ∙ first-any f 0 xs)
 
 group : (b : Bool) (x r : Answer) (ys : List Answer) → passes x ≡ b → (s : Answer) → firstRefusal (r ∷ ys) ≡ s
     → firstRefusal (pick b r x ∷ ys) ≡ pick b s x
@@ -103,6 +112,15 @@ pub grouped : (xs ys : List Answer) → firstRefusal (firstRefusal xs ∷ ys) �
 unfolding firstRefusal
 grouped [] ys = refl
 grouped (x ∷ xs) ys = group (passes x) x (firstRefusal xs) ys refl (firstRefusal (xs ++ ys)) (grouped xs ys)
+
+pub change-groups : (current cuts adds : List Item)
+    → firstRefusal (staticFaults cuts adds ∷ notCurrent current cuts ∷ present current adds ∷ []) ≡ changeFaults current cuts adds
+unfolding deltaFaults staticFaults changeFaults
+change-groups current cuts adds =
+    grouped (deltaFaults cuts adds ∷ transferable 2 cuts ∷ transferable 3 adds ∷ []) (notCurrent current cuts ∷ present current adds ∷ [])
+    ∙ grouped
+      (duplicate 2 cuts ∷ duplicate 3 adds ∷ overlap cuts adds ∷ [])
+      (transferable 2 cuts ∷ transferable 3 adds ∷ notCurrent current cuts ∷ present current adds ∷ [])
 
 -- ---- the list on its way
 push-by : (ks : List Item) (x : Item) (t : Bool) → ltb (length ks) 16 ≡ t
