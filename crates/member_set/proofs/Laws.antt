@@ -3,16 +3,16 @@
 --     stop, pass, last    the checks in order, one at a time; searched: one by a search; grouped: a group of them is one
 --     grown-, Kept, Joined, update-   the list on its way through an update
 use mathlib.Core.Path.{_≡_, refl, sym, _∙_, ap}
-use mathlib.Core.Bool.{Bool, true, false, not}
+use mathlib.Core.Bool.{Bool, true, false}
 use mathlib.Core.List.{List, [], _∷_, _++_, append-assoc, append-nil}
-use Prim.Native.Nat.{ℕ, suc, _+_, _-_, _<_, _≤_}
+use Prim.Native.Nat.{ℕ, _+_, _<_, _≤_}
 use native.Mathlib.Numerals.{add-one}
 use native.Mathlib.Omega.{arith}
-use lib.Dec.{ltb, eqb}
+use lib.Dec.{ltb}
 use lib.ListN.{length, take, drop, getD, set, length-take, length-append, drop-of-length-le}
 use lib.Seq.{take-all, take-take, take-append-le, take-suc, getD-take}
-use borrow.Author.Tests.{lt-ltb, le-ltb, ltb-true, ltb-false, le-leb, lt-leb, eqb-true, ne-eqb}
-use Rattle.lists.specs.Lists.{pick, either, any, filter, firstFrom, isAt, padded}
+use borrow.Author.Tests.{ltb-true, ltb-false, le-leb, lt-leb, ne-eqb}
+use Rattle.lists.specs.Lists.{pick, either, any, filter, firstFrom, isAt}
 use Rattle.lists.specs.declared.Found.{Found}
 use Rattle.lists.specs.declared.Found.the-variants.{At, Nothing}
 use Rattle.lists.proofs.Walks.{head-at, used-end, first-here, first-next, first-end, filter-in, filter-out, filter-end}
@@ -119,8 +119,8 @@ unfolding deltaFaults staticFaults changeFaults
 change-groups current cuts adds =
     grouped (deltaFaults cuts adds ∷ transferable 2 cuts ∷ transferable 3 adds ∷ []) (notCurrent current cuts ∷ present current adds ∷ [])
     ∙ grouped
-      (duplicate 2 cuts ∷ duplicate 3 adds ∷ overlap cuts adds ∷ [])
-      (transferable 2 cuts ∷ transferable 3 adds ∷ notCurrent current cuts ∷ present current adds ∷ [])
+    (duplicate 2 cuts ∷ duplicate 3 adds ∷ overlap cuts adds ∷ [])
+    (transferable 2 cuts ∷ transferable 3 adds ∷ notCurrent current cuts ∷ present current adds ∷ [])
 
 -- ---- the list on its way
 push-by : (ks : List Item) (x : Item) (t : Bool) → ltb (length ks) 16 ≡ t
@@ -225,7 +225,7 @@ module _ (first xs : List Item) (l : Items) (i : ℕ) where
   unfolding any
   known-next x t r y =
       let e : member (take (i + 1) xs) y ≡ either (member (take i xs) y) (either (sameItem y x) false) =
-          (rw t (any-append (sameItem y) (take i xs) (x ∷ []))) in
+      (rw t (any-append (sameItem y) (take i xs) (x ∷ []))) in
       rw (r .known y, e) (more (member first y) (member (take i xs) y) (either (sameItem y x) false))
 
   joined-by : (x : Item) (b : Bool) → drop i xs ≡ x ∷ drop (i + 1) xs → take (i + 1) xs ≡ take i xs ++ (x ∷ [])

@@ -166,7 +166,7 @@ fn check_deltas(cuts: Items, adds: Items) -> Answer
     refuse_at(f, 20, 0)
 }
 
-// 19 removals, 19 additions behind them.
+// These, then 19 removals, 19 additions.
 fn check_witness_deltas(cuts: Items, adds: Items) -> Answer
     ensures { λ r. ⌜ r ≡ staticFaults (listed cuts) (listed adds) ⌝ }
 {
@@ -181,7 +181,7 @@ fn check_witness_deltas(cuts: Items, adds: Items) -> Answer
     check_transferable(adds, 3)
 }
 
-// 21 and 22 behind them.
+// All of these, then 21 and 22.
 pub fn check_change(current: Items, cuts: Items, adds: Items) -> Answer
     ensures { λ r. ⌜ r ≡ changeFaults (listed current) (listed cuts) (listed adds) ⌝ }
 {
@@ -198,10 +198,14 @@ pub fn check_change(current: Items, cuts: Items, adds: Items) -> Answer
     refuse_at(g, 22, 0)
 }
 
-fn push(l: Items, x: Item) -> Items
+// One more, unless it is known; past 16 only the count grows.
+fn push_unless(known: bool, l: Items, x: Item) -> Items
     requires { ⌜ l .count < 32 ⌝ }
-    ensures { λ r. ⌜ r ≡ pushed l x ⌝ }
+    ensures { λ r. ⌜ r ≡ pick known l (pushed l x) ⌝ }
 {
+    if known {
+        return l;
+    }
     let n = l.count;
     let mut m = l;
     m.count = n + 1;
@@ -210,13 +214,6 @@ fn push(l: Items, x: Item) -> Items
     }
     m.at[n] = x;
     m
-}
-
-fn push_unless(known: bool, l: Items, x: Item) -> Items
-    requires { ⌜ l .count < 32 ⌝ }
-    ensures { λ r. ⌜ r ≡ pick known l (pushed l x) ⌝ }
-{
-    if known { l } else { push(l, x) }
 }
 
 // The current members that are not cut.
@@ -280,8 +277,5 @@ pub fn update(current: Items, cuts: Items, adds: Items) -> Change
         };
     }
     let a = answer::accept();
-    Change {
-        answer: a,
-        list: l,
-    }
+    Change { answer: a, list: l }
 }

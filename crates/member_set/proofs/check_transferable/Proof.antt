@@ -12,7 +12,7 @@ refuse-at-requires : tie.Need-refuse-at-requires
 refuse-at-requires c κs = search needs
 
 returns : tie.Need-returns
-returns c = 
+returns c =
     let a = c .before .before .args in
     searched isTransferable (listed (a .l)) _ (c .before .first-transferable .ensures) (c .refuse-at .ensures)
 

@@ -20,7 +20,7 @@ check-transferable-requires c κs = search needs
 
 returns-2 : tie.Need-returns-2
 unfolding witnessFaults
-returns-2 c = 
+returns-2 c =
     let m = c .before .before .before in
     let a = m .before .args in
     pass _ (m .check-members .ensures) (c .before .if1 .left) (last (any isTransferable (listed (a .l))) 19 (a .list) (omega arith) (c .check-transferable .ensures))

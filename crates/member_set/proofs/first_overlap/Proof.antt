@@ -107,7 +107,7 @@ returns-2 c =
     let ys = take (u .used2 .result) (a .ys .at) in
     let x = getD (a .xs .at) (o .search .i) noItem in
     let yes : member ys x ≡ true =
-        l .loop .inv ∙ any-here (sameItem x) ys _ (l .loop .j) (head-at noItem (a .ys .at) (u .used2 .result) (l .loop .j) (omega arith) (omega arith)) (sym (c .before .same .ensures) ∙ c .if2 .taken) in
+    l .loop .inv ∙ any-here (sameItem x) ys _ (l .loop .j) (head-at noItem (a .ys .at) (u .used2 .result) (l .loop .j) (omega arith) (omega arith)) (sym (c .before .same .ensures) ∙ c .if2 .taken) in
     found-here (member ys) noItem (a .xs .at) (listed (a .xs)) (u .before .used .result) (o .search .i) (u .before .used .ensures .1) (o .search .inv .1 .1) (omega arith) (omega arith) yes
     ∙ ap (λ (zs : List Item). firstFrom (member zs) 0 (listed (a .xs))) (u .used2 .ensures .1)
 
