@@ -20,7 +20,7 @@ use Rattle.lists.specs.declared.Found.the-variants.{At, Nothing}
 use Rattle.lists.proofs.Facts.{both-true, both-in, any-append, same-numbers}
 use Rattle.lists.proofs.Padding.{is-padded}
 use Rattle.places.specs.Places.{setOf, withPlace}
-use Rattle.places.proofs.Laws.{with, with-set, set-same, set-none}
+use Rattle.places.proofs.Laws.{with, with-set, set-same, set-none, either-false}
 use Rattle.verification.specs.declared.Siger.{Siger}
 use Rattle.verification.specs.declared.Sigers.{Sigers}
 use Rattle.verification.specs.declared.Counted.{Counted}
@@ -47,10 +47,6 @@ both-right false b e = refl
 both-assoc : (a b c : Bool) → both a (both b c) ≡ both (both a b) c
 both-assoc true b c = refl
 both-assoc false b c = refl
-
-either-false : (x : Bool) → either x false ≡ x
-either-false true = refl
-either-false false = refl
 
 -- ---- a place within a list
 module _ (k n : ℕ) where
