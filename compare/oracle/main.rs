@@ -1,0 +1,39 @@
+//! The oracle: prints what the given Rust answers to house records on standard input.
+//!
+//! ```text
+//! oracle [--states] [--fold] [--no-checks]   keyreport's lines
+//! oracle --record N                          the Nth record's bytes in hex
+//! oracle --calls                             direct calls, see calls.rs
+//! ```
+use std::io::{self, BufWriter, Read, Write};
+
+use oracle_lib::holder::Holder;
+use oracle_lib::report::{record_bytes, report};
+use oracle_lib::{calls, hex};
+
+fn main() {
+    let mut flags: Vec<String> = std::env::args().skip(1).collect();
+    let mut flag = |name: &str| {
+        let count = flags.len();
+        flags.retain(|flag| flag != name);
+        flags.len() < count
+    };
+    let mut holder = Holder::default();
+    holder.checks = !flag("--no-checks");
+    let (states, fold, direct, one) =
+        (flag("--states"), flag("--fold"), flag("--calls"), flag("--record"));
+    let mut input = Vec::new();
+    io::stdin().read_to_end(&mut input).expect("standard input");
+    let mut out = BufWriter::new(io::stdout().lock());
+    let result = if direct {
+        let text = String::from_utf8(input).expect("requests are text");
+        text.lines().try_for_each(|line| writeln!(out, "{}", calls::answer(line)))
+    } else if one {
+        let ordinal = flags.first().and_then(|n| n.parse().ok()).expect("--record N");
+        writeln!(out, "{}", hex(record_bytes(&input, ordinal)))
+    } else {
+        assert!(flags.is_empty(), "unknown flags: {flags:?}");
+        report(&input, &mut holder, fold, states, &mut out)
+    };
+    result.and_then(|()| out.flush()).expect("standard output");
+}

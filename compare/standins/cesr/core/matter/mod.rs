@@ -1,0 +1,3 @@
+//! Stand-in module root of qualified values.
+pub mod code;
+pub mod matter;
