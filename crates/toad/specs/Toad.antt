@@ -4,6 +4,7 @@ use Prim.Native.Nat.{min, max}
 use mathlib.Core.Bool.{Bool, true, false}
 use lib.Dec.{eqb, ltb, leb}
 use Rattle.lists.specs.Lists.{pick, both}
+use Rattle.answer.specs.declared.Answer.{Answer}
 use Rattle.answer.specs.Answer.{refused, accepted}
 use Rattle.toad.specs.declared.Toad.{Toad}
 use Rattle.toad.specs.declared.Taken.{Taken}
@@ -36,3 +37,7 @@ inRange toad witnesses = pick (eqb witnesses 0) (eqb toad 0) (both (leb 1 toad) 
 
 abbrev pub exactAnswer : ℕ → ℕ → Taken
 exactAnswer toad witnesses = pick (inRange toad witnesses) (taken toad) (notTaken 40 toad witnesses)
+
+-- placeholder until h_small lands
+abbrev pub witnessThreshold : ℕ → ℕ → Answer
+witnessThreshold toad witnesses = pick (inRange toad witnesses) accepted (pick (eqb toad 0) (refused 30 witnesses 0) (refused 31 toad witnesses))
