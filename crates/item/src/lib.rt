@@ -2,6 +2,7 @@
 ghost use mathlib.Core.Path.{_≡_};
 ghost use Rattle.lists.specs.Lists.{sameNumbers};
 ghost use Rattle.item.specs.Item.{classOf, fitsOf, basicOf, transferableOf, sameItem, zeroItem, isZero};
+ghost use Rattle.item.specs.declared.Kind.the-variants.{Said};
 
 pub struct Item {
     pub code: u8,
@@ -36,21 +37,10 @@ pub fn classify(code: u8) -> Class
 pub fn fits(code: u8, kind: Kind) -> bool
     ensures { λ r. ⌜ r ≡ fitsOf kind code ⌝ }
 {
-    let class = classify(code);
     match kind {
-        Kind::Prefix => match class {
-            Class::NonTransferableKey => true,
-            Class::TransferableKey => true,
-            Class::Digest => true,
-            Class::Bad => false,
-        },
+        Kind::Prefix => is_basic(code) || is_digest(code),
         Kind::Key => is_basic(code),
-        Kind::Said => match class {
-            Class::NonTransferableKey => false,
-            Class::TransferableKey => false,
-            Class::Digest => true,
-            Class::Bad => false,
-        },
+        Kind::Said => is_digest(code),
     }
 }
 
@@ -61,6 +51,17 @@ pub fn is_basic(code: u8) -> bool
         Class::NonTransferableKey => true,
         Class::TransferableKey => true,
         Class::Digest => false,
+        Class::Bad => false,
+    }
+}
+
+fn is_digest(code: u8) -> bool
+    ensures { λ r. ⌜ r ≡ fitsOf Said code ⌝ }
+{
+    match classify(code) {
+        Class::NonTransferableKey => false,
+        Class::TransferableKey => false,
+        Class::Digest => true,
         Class::Bad => false,
     }
 }
