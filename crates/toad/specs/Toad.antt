@@ -38,6 +38,8 @@ inRange toad witnesses = pick (eqb witnesses 0) (eqb toad 0) (both (leb 1 toad) 
 abbrev pub exactAnswer : ℕ → ℕ → Taken
 exactAnswer toad witnesses = pick (inRange toad witnesses) (taken toad) (notTaken 40 toad witnesses)
 
--- placeholder until h_small lands
-abbrev pub witnessThreshold : ℕ → ℕ → Answer
-witnessThreshold toad witnesses = pick (inRange toad witnesses) accepted (pick (eqb toad 0) (refused 30 witnesses 0) (refused 31 toad witnesses))
+-- "31 is every misfit of toad but zero with witnesses (30)"; 30's detail: witnesses; 31's: toad, witnesses. No witnesses and
+-- toad 0 fit, so a misfit of zero has witnesses.
+unfoldable pub witnessThreshold : ℕ → ℕ → Answer
+witnessThreshold toad witnesses =
+    pick (inRange toad witnesses) accepted (pick (eqb toad 0) (refused 30 witnesses 0) (refused 31 toad witnesses))
