@@ -25,10 +25,10 @@ use Rattle.inception.specs.Identity.{identity}
 use Rattle.event.specs.declared.Ilk.{Ilk}
 use Rattle.event.specs.declared.Ilk.the-variants.{Inception, Rotation, Interaction, DelegatedInception, DelegatedRotation}
 use Rattle.event.specs.declared.Event.{Event}
-use Rattle.event.specs.Shape.{firstHead, laterHead, bodyShape, signedShape, eventShape}
+use Rattle.shape.specs.Event.{firstHead, laterHead, bodyShape, signedShape, eventShape}
 use Rattle.state.specs.declared.Holder.{Holder}
 use Rattle.state.specs.State.{mayMove, isHeld, noThreshold}
-use Rattle.state.specs.Shape.{holderShape}
+use Rattle.shape.specs.State.{holderShape}
 use Rattle.rules.specs.Rules.{inception, rotation, interaction}
 use Rattle.ingest.specs.Judgement.{offered, answerTo, judgement, onState, nextState}
 use Rattle.history.specs.History.{nothing, after}

@@ -19,11 +19,11 @@ use Rattle.event.specs.declared.Ilk.{Ilk}
 use Rattle.event.specs.declared.Ilk.the-variants.{Inception, Rotation, Interaction, DelegatedInception, DelegatedRotation}
 use Rattle.event.specs.declared.Head.{Head}
 use Rattle.event.specs.declared.Event.{Event}
-use Rattle.event.specs.Shape.{eventShape}
+use Rattle.shape.specs.Event.{eventShape}
 use Rattle.state.specs.declared.KeyState.{KeyState}
 use Rattle.state.specs.declared.Holder.{Holder}
 use Rattle.state.specs.State.{mayMove, isHeld, holding, begun, seeded, genesis}
-use Rattle.state.specs.Shape.{holderShape}
+use Rattle.shape.specs.State.{holderShape}
 use Rattle.rules.specs.Rules.{inception, rotation, interaction, chains, rewitness, genesisSn, follows, newWitnesses}
 use Rattle.member_set.specs.Members.{changeOf}
 use Rattle.ingest.specs.Judgement.{offered, answerTo, judgement, onState, onNothing, whereLive, nextState, nextAs, settled, incepted, rotates, interacts}

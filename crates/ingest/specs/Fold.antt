@@ -11,11 +11,11 @@ use Rattle.member_set.specs.Members.{changeOf}
 use Rattle.event.specs.declared.Ilk.{Ilk}
 use Rattle.event.specs.declared.Ilk.the-variants.{Inception, Rotation, Interaction, DelegatedInception, DelegatedRotation}
 use Rattle.event.specs.declared.Event.{Event}
-use Rattle.event.specs.Shape.{eventShape}
+use Rattle.shape.specs.Event.{eventShape}
 use Rattle.state.specs.declared.KeyState.{KeyState}
 use Rattle.state.specs.declared.Holder.{Holder}
 use Rattle.state.specs.State.{isHeld, holding, genesis, rotated, stepped}
-use Rattle.state.specs.Shape.{holderShape}
+use Rattle.shape.specs.State.{holderShape}
 use Rattle.rules.specs.Rules.{newWitnesses}
 use Rattle.ingest.specs.declared.Offered.{Offered}
 use Rattle.ingest.specs.Judgement.{settled}

@@ -12,11 +12,13 @@ use Rattle.items.specs.Items as items
 use Rattle.threshold.specs.Threshold as threshold
 use Rattle.config.specs.Config as config
 use Rattle.verification.specs.Verification as verification
+use Rattle.authority.specs.declared.Authority.{Authority}
+use Rattle.authority.specs.declared.Commitment.{Commitment}
 use Rattle.event.specs.declared.Ilk.{Ilk}
 use Rattle.event.specs.declared.Ilk.the-variants.{Inception, Rotation, Interaction, DelegatedInception, DelegatedRotation}
 use Rattle.event.specs.declared.Head.{Head}
 use Rattle.event.specs.declared.Body.{Body}
 use Rattle.event.specs.declared.Event.{Event}
 
 -- "prefix, sn, said", and "prior" behind them where there is one
 unfoldable pub firstHead : Head → ℕ
@@ -25,16 +27,16 @@ firstHead h = firstFault (itemShape Prefix (h .prefix) ∷ itemShape Said (h .sa
 unfoldable pub laterHead : Head → ℕ
 laterHead h = firstFault (firstHead h ∷ itemShape Said (h .prior) ∷ [])
 
+-- "keys, threshold", and "next, next threshold": of an event and of a state alike
+unfoldable pub ownShape : Authority → ℕ
+ownShape a = firstFault (items.shapeOf Key (a .keys) ∷ threshold.shapeOf (a .threshold) ∷ [])
+
+unfoldable pub nextShape : Commitment → ℕ
+nextShape c = firstFault (items.shapeOf Said (c .next) ∷ threshold.shapeOf (c .threshold) ∷ [])
+
 -- "keys, threshold, next, next threshold, witnesses" or "additions"
 unfoldable pub bodyShape : Body → ℕ
-bodyShape b =
-    firstFault (
-      items.shapeOf Key (b .authority .keys)
-      ∷ threshold.shapeOf (b .authority .threshold)
-      ∷ items.shapeOf Said (b .commitment .next)
-      ∷ threshold.shapeOf (b .commitment .threshold)
-      ∷ items.shapeOf Key (b .additions)
-      ∷ [])
+bodyShape b = firstFault (ownShape (b .authority) ∷ nextShape (b .commitment) ∷ items.shapeOf Key (b .additions) ∷ [])
 
 -- "signatures, receipts"
 unfoldable pub signedShape : Event → ℕ
