@@ -25,7 +25,7 @@ use Rattle.inception.specs.Identity.{identity}
 use Rattle.event.specs.declared.Ilk.{Ilk}
 use Rattle.event.specs.declared.Ilk.the-variants.{Inception, Rotation, Interaction, DelegatedInception, DelegatedRotation}
 use Rattle.event.specs.declared.Event.{Event}
-use Rattle.shape.specs.Event.{firstHead, laterHead, bodyShape, signedShape, eventShape}
+use Rattle.shape.specs.Event.{firstHead, ownShape, nextShape, bodyShape, signedShape, eventShape}
 use Rattle.state.specs.declared.Holder.{Holder}
 use Rattle.state.specs.State.{mayMove, isHeld, noThreshold}
 use Rattle.shape.specs.State.{holderShape}
@@ -73,7 +73,7 @@ event ilk =
     }
 
 pub accepts : offered nothing (event Inception) .answer ≡ accepted
-unfolding offered answerTo judgement holderShape isHeld eventShape firstHead bodyShape signedShape firstFault firstRefusal classOf items.shapeOf config.shapeOf threshold.shapeOf verification.shapeOf any all inception sameNumber identity sameItem sameNumbers witnessFaults repeatFrom threshold.wellFormed threshold.sum quorum threshold.judged chosen verification.verifiedAt verification.firsts verification.sameWire receipts
+unfolding offered answerTo judgement holderShape isHeld eventShape firstHead bodyShape ownShape nextShape signedShape firstFault firstRefusal classOf items.shapeOf config.shapeOf threshold.shapeOf verification.shapeOf any all inception sameNumber identity sameItem sameNumbers witnessFaults repeatFrom threshold.wellFormed threshold.sum quorum threshold.judged chosen verification.verifiedAt verification.firsts verification.sameWire receipts
 accepts = refl
 
 pub refuses : offered nothing (event DelegatedInception) .answer ≡ refused 6 0 0

@@ -15,6 +15,7 @@ use Rattle.number.specs.Number.{small, value, sameNumber, nextOf}
 use Rattle.number.proofs.Laws.{same-number, next-value}
 use Rattle.answer.specs.declared.Answer.{Answer}
 use Rattle.answer.specs.Answer.{refused, accepted, refuseUnless, passes, firstRefusal}
+use Rattle.answer.proofs.Laws.{clean-first}
 use Rattle.event.specs.declared.Ilk.{Ilk}
 use Rattle.event.specs.declared.Ilk.the-variants.{Inception, Rotation, Interaction, DelegatedInception, DelegatedRotation}
 use Rattle.event.specs.declared.Head.{Head}
@@ -24,7 +25,7 @@ use Rattle.state.specs.declared.KeyState.{KeyState}
 use Rattle.state.specs.declared.Holder.{Holder}
 use Rattle.state.specs.State.{mayMove, isHeld, holding, begun, seeded, genesis}
 use Rattle.shape.specs.State.{holderShape}
-use Rattle.rules.specs.Rules.{inception, rotation, interaction, chains, rewitness, genesisSn, follows, newWitnesses}
+use Rattle.rules.specs.Rules.{inception, rotation, interaction, chains, chainsOnto, rewitness, genesisSn, follows, newWitnesses}
 use Rattle.member_set.specs.Members.{changeOf}
 use Rattle.ingest.specs.Judgement.{offered, answerTo, judgement, onState, onNothing, whereLive, nextState, nextAs, settled, incepted, rotates, interacts}
 use Rattle.ingest.specs.Fold.{folded, foldAnswer, foldState, foldedAs, foldable}
@@ -128,7 +129,7 @@ follows-next (Of k) m p = by-test (sameNumber k m) refl p
 follows-next Last m p = clash (sym p)
 
 chains-next : (s : KeyState) (h : Head) → passes (chains s h) ≡ true → value (h .sn) ≡ value (s .sn) + 1
-unfolding chains
+unfolding chainsOnto
 chains-next s h p = next-value (s .sn) (h .sn) (follows-next (nextOf (s .sn)) (h .sn) (first-passes _ _ (first-passes _ _ p .1) .0))
 
 pub record NextNumber (k : Ilk) (h : Holder) (e : Event) : Type 0 where
@@ -171,16 +172,6 @@ module _ (h : Holder) (e : Event) (p : takes h e ≡ true) where
       rw (moves h e p) (ap (λ (x : Number). value x + 1) (n .written) ∙ ap (λ (x : ℕ). x + 1) (n .waited))
 
 -- "a and b are 0 for every accepted record"
-passes-accepted : (xs : List Answer) → passes (firstRefusal xs) ≡ true → firstRefusal xs ≡ accepted
-unfolding firstRefusal
-passes-accepted [] p = refl
-passes-accepted (x ∷ xs) p = by-test (passes x) refl p (passes-accepted xs)
-  where
-    by-test : (t : Bool) → passes x ≡ t → passes (pick t (firstRefusal xs) x) ≡ true
-        → (passes (firstRefusal xs) ≡ true → firstRefusal xs ≡ accepted) → pick t (firstRefusal xs) x ≡ accepted
-    by-test true e q ih = ih q
-    by-test false e q ih = clash (sym q ∙ e)
-
 pub takes-zero : (h : Holder) (e : Event) → takes h e ≡ true → offered h e .answer ≡ accepted
 unfolding offered answerTo
-takes-zero h e p = passes-accepted _ p
+takes-zero h e p = clean-first _ p

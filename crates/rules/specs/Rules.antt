@@ -23,32 +23,36 @@ use Rattle.toad.specs.Toad.{witnessThreshold}
 use Rattle.member_set.specs.declared.Change.{Change}
 use Rattle.member_set.specs.Members.{witnessFaults, changeFaults, updated, changeOf}
 use Rattle.inception.specs.Identity.{identity}
+use Rattle.authority.specs.declared.Authority.{Authority}
+use Rattle.authority.specs.declared.Commitment.{Commitment}
 use Rattle.event.specs.declared.Head.{Head}
 use Rattle.event.specs.declared.Body.{Body}
 use Rattle.state.specs.declared.KeyState.{KeyState}
-use Rattle.state.specs.State.{abandons}
 
 -- ---- "33, 34, 35, 36"
-abbrev pub identifier : KeyState → Head → Answer
-identifier s h = refuseUnless (sameItem (s .prefix) (h .prefix)) (refused 33 0 0)
+abbrev pub identifier : Item → Head → Answer
+identifier prefix h = refuseUnless (sameItem prefix (h .prefix)) (refused 33 0 0)
 
 -- 35's details: expected, actual
 abbrev pub follows : Successor → Number → Answer
 follows (Of expected) actual = refuseUnless (sameNumber expected actual) (record { number = 35; a = expected; b = actual })
 follows Last actual = refused 34 0 0
 
-abbrev pub prior : KeyState → Head → Answer
-prior s h = refuseUnless (sameItem (s .said) (h .prior)) (refused 36 0 0)
+abbrev pub prior : Item → Head → Answer
+prior said h = refuseUnless (sameItem said (h .prior)) (refused 36 0 0)
 
-unfoldable pub chains : KeyState → Head → Answer
-chains s h = firstRefusal (identifier s h ∷ follows (nextOf (s .sn)) (h .sn) ∷ prior s h ∷ [])
+unfoldable pub chainsOnto : Item → Number → Item → Head → Answer
+chainsOnto prefix sn said h = firstRefusal (identifier prefix h ∷ follows (nextOf sn) (h .sn) ∷ prior said h ∷ [])
+
+abbrev pub chains : KeyState → Head → Answer
+chains s h = chainsOnto (s .prefix) (s .sn) (s .said) h
 
 -- ---- "own threshold", "next threshold if next is not empty"
-abbrev pub ownForm : Body → Answer
-ownForm b = wellFormed (b .authority .threshold) (b .authority .keys .count)
+abbrev pub ownForm : Authority → Answer
+ownForm a = wellFormed (a .threshold) (a .keys .count)
 
-abbrev pub nextForm : Body → Answer
-nextForm b = pick (abandons b) accepted (wellFormed (b .commitment .threshold) (b .commitment .next .count))
+abbrev pub nextForm : Commitment → Answer
+nextForm c = pick (eqb (c .next .count) 0) accepted (wellFormed (c .threshold) (c .next .count))
 
 -- ---- "IC then: 11; for a basic prefix 12, 13, 14, and with code B also 15, 16, 17; witnesses 18, then 19; own threshold;
 -- signatures 27; next threshold if next is not empty; 29; 30 or 31; 32." 11's detail: sn.
@@ -60,8 +64,8 @@ identityOf h b anchors =
     identity (h .prefix) (b .authority .keys) (b .authority .threshold) (b .commitment .next .count) (b .additions .count) anchors
 
 -- 29: a non-transferable prefix that commits to next keys
-abbrev pub mayCommit : Head → Body → Answer
-mayCommit h b = refuseUnless (pick (abandons b) true (isTransferable (h .prefix))) (refused 29 0 0)
+abbrev pub mayCommit : Item → Commitment → Answer
+mayCommit prefix c = refuseUnless (pick (eqb (c .next .count) 0) true (isTransferable prefix)) (refused 29 0 0)
 
 abbrev pub toadFits : Body → ℕ → Answer
 toadFits b witnesses = witnessThreshold (b .toad) witnesses
@@ -69,42 +73,50 @@ toadFits b witnesses = witnessThreshold (b .toad) witnesses
 unfoldable pub inception : Head → Body → ℕ → Answer → (ℕ → Answer) → Answer
 inception h b anchors signed receipted =
     firstRefusal (
-      genesisSn h
-      ∷ identityOf h b anchors
-      ∷ witnessFaults 1 (listed (b .additions))
-      ∷ ownForm b
-      ∷ signed
-      ∷ nextForm b
-      ∷ mayCommit h b
-      ∷ toadFits b (b .additions .count)
-      ∷ receipted (b .additions .count)
-      ∷ [])
+    genesisSn h
+    ∷ identityOf h b anchors
+    ∷ witnessFaults 1 (listed (b .additions))
+    ∷ ownForm (b .authority)
+    ∷ signed
+    ∷ nextForm (b .commitment)
+    ∷ mayCommit (h .prefix) (b .commitment)
+    ∷ toadFits b (b .additions .count)
+    ∷ receipted (b .additions .count)
+    ∷ [])
 
 -- ---- "18 removals, 18 additions, 20, 19 removals, 19 additions, 21, 22; 38; 30 or 31; 32": the receipts are asked of the
 -- resulting list
 abbrev pub newWitnesses : KeyState → Body → List Item
 newWitnesses s b = updated (listed (s .witnessing .witnesses)) (listed (b .removals)) (listed (b .additions))
 
-unfoldable pub rewitness : KeyState → Body → (ℕ → Answer) → Answer
-rewitness s b receipted =
+abbrev pub witnessStages : Answer → List Item → Body → (ℕ → Answer) → List Answer
+witnessStages faults new b receipted =
+    faults ∷ changeOf new .answer ∷ toadFits b (length new) ∷ receipted (length new) ∷ []
+
+unfoldable pub rewitness : List Item → Body → (ℕ → Answer) → Answer
+rewitness current b receipted =
     firstRefusal (
-      changeFaults (listed (s .witnessing .witnesses)) (listed (b .removals)) (listed (b .additions))
-      ∷ changeOf (newWitnesses s b) .answer
-      ∷ toadFits b (length (newWitnesses s b))
-      ∷ receipted (length (newWitnesses s b))
-      ∷ [])
+    witnessStages
+    (changeFaults current (listed (b .removals)) (listed (b .additions)))
+    (updated current (listed (b .removals)) (listed (b .additions)))
+    b
+    receipted)
+
+-- a change's answer, with the new list where it passes
+abbrev pub changed : Answer → List Item → Change
+changed x new = record { answer = x; list = pick (passes x) (packed new) (packed []) }
 
 -- ---- "RO: 33, 34, 35, 36; own threshold; next threshold if next is not empty; 27; 28; 18 removals, .. 32"
 unfoldable pub rotation : KeyState → Head → Body → Answer → Answer → (ℕ → Answer) → Answer
 rotation s h b signed exposed receipted =
-    firstRefusal (chains s h ∷ ownForm b ∷ nextForm b ∷ signed ∷ exposed ∷ rewitness s b receipted ∷ [])
+    firstRefusal (chains s h ∷ ownForm (b .authority) ∷ nextForm (b .commitment) ∷ signed ∷ exposed ∷ rewitness (listed (s .witnessing .witnesses)) b receipted ∷ [])
 
 -- ---- "IX: 37; 33, 34, 35, 36; 27 with the state's keys; 32 with the state's witnesses"
 unfoldable pub interaction : KeyState → Head → Answer → (ℕ → Answer) → Answer
 interaction s h signed receipted =
     firstRefusal (
-      refuseIf (establishmentOnly (s .config)) (refused 37 0 0)
-      ∷ chains s h
-      ∷ signed
-      ∷ receipted (s .witnessing .witnesses .count)
-      ∷ [])
+    refuseIf (establishmentOnly (s .config)) (refused 37 0 0)
+    ∷ chains s h
+    ∷ signed
+    ∷ receipted (s .witnessing .witnesses .count)
+    ∷ [])

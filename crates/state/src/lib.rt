@@ -92,7 +92,11 @@ pub fn rotate(s: KeyState, h: Head, b: Body, witnesses: Items) -> KeyState
     let commitment = b.commitment;
     let next = commitment.next;
     let config = s.config;
-    let transferable = if next.count == 0 { false } else { s.transferable };
+    let transferable = if next.count == 0 {
+        false
+    } else {
+        s.transferable
+    };
     let witnessing = Witnessing {
         witnesses: witnesses,
         toad: b.toad,

@@ -17,11 +17,11 @@ fits-requires c κs = search needs
 
 -- src/lib.rt:121:1
 returns : tie.Need-returns
-returns c = rw (sym (c .before .fits .ensures) ∙ c .if1 .taken)
+returns c = rw (sym (c .before .fits2 .ensures) ∙ c .if1 .taken)
 
 -- src/lib.rt:121:1
 returns-2 : tie.Need-returns-2
-returns-2 c = rw (sym (c .before .fits .ensures) ∙ c .if1 .left)
+returns-2 c = rw (sym (c .before .fits2 .ensures) ∙ c .if1 .left)
 
 pub shape-spec : {M : Type 1} → statement M
 shape-spec = tie.close (tie.spec fits-requires returns returns-2)
