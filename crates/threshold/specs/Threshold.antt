@@ -64,6 +64,10 @@ wellFormed t keys =
     (pick (eqb (t .clauses) 0) (refused 25 0 0)
     (pick (any (eqb 0) (sizesOf t)) (refused 26 0 0) (atMost (weightsIn t) keys)))
 
+-- a struct entry: "Numbers 1 to 4 come before all others"
+unfoldable pub checkWellFormed : Threshold → ℕ → Answer
+checkWellFormed t keys = firstRefusal (refused (shapeOf t) 0 0 ∷ wellFormed t keys ∷ [])
+
 -- ---- The sum of a clause: weights at signed places are added, the others only looked at for a zero denominator.
 -- the clause's places are k, k + 1, ..
 unfoldable pub sumFrom : (ℕ → Bool) → ℕ → Sum → List Weight → Sum
