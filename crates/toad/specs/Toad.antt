@@ -4,6 +4,7 @@ use Prim.Native.Nat.{min, max}
 use mathlib.Core.Bool.{Bool, true, false}
 use lib.Dec.{eqb, ltb, leb}
 use Rattle.lists.specs.Lists.{pick, both}
+use Rattle.answer.specs.declared.Answer.{Answer}
 use Rattle.answer.specs.Answer.{refused, accepted}
 use Rattle.toad.specs.declared.Toad.{Toad}
 use Rattle.toad.specs.declared.Taken.{Taken}
@@ -36,3 +37,9 @@ inRange toad witnesses = pick (eqb witnesses 0) (eqb toad 0) (both (leb 1 toad) 
 
 abbrev pub exactAnswer : ℕ → ℕ → Taken
 exactAnswer toad witnesses = pick (inRange toad witnesses) (taken toad) (notTaken 40 toad witnesses)
+
+-- "31 is every misfit of toad but zero with witnesses (30)"; 30's detail: witnesses; 31's: toad, witnesses. No witnesses and
+-- toad 0 fit, so a misfit of zero has witnesses.
+unfoldable pub witnessThreshold : ℕ → ℕ → Answer
+witnessThreshold toad witnesses =
+    pick (inRange toad witnesses) accepted (pick (eqb toad 0) (refused 30 witnesses 0) (refused 31 toad witnesses))
