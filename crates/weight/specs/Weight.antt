@@ -7,13 +7,25 @@ use Rattle.lists.specs.Lists.{pick, both}
 use Rattle.weight.specs.declared.Weight.{Weight}
 use Rattle.weight.specs.declared.Sum.{Sum}
 use Rattle.weight.specs.declared.Sum.the-variants.{At, Failed}
+use Rattle.weight.specs.declared.Word.{Word}
+use Rattle.weight.specs.declared.Word.the-variants.{Fits, Over}
 
--- a result in u64, or failed
-abbrev pub checked : ℕ → (ℕ → Sum) → Sum
-checked n k = pick (ltb n (2 ^ 64)) (k n) Failed
+-- a number in u64, or over
+abbrev pub inWord : ℕ → Word
+inWord n = pick (ltb n (2 ^ 64)) (Fits n) Over
+
+-- go on with a number in u64, or fail
+abbrev pub checked : Word → (ℕ → Sum) → Sum
+checked (Fits n) k = k n
+checked Over k = Failed
 
 unfoldable pub plus : Sum → Weight → Sum
-plus (At n d) w = checked (n * w .den) (λ l. checked (w .num * d) (λ r. checked (l + r) (λ num. checked (d * w .den) (λ den. At num den))))
+plus (At n d) w =
+    checked (inWord (n * w .den))
+    (λ l. checked (inWord (w .num * d))
+    (λ r. checked (inWord (l + r))
+    (λ num. checked (inWord (d * w .den))
+    (λ den. At num den))))
 plus Failed w = Failed
 
 unfoldable pub weigh : Bool → Sum → Weight → Sum
