@@ -5,7 +5,7 @@ ghost use lib.ListN.{take, drop};
 ghost use Rattle.lists.specs.Lists.{pick, both, any, all};
 ghost use Rattle.places.specs.Places.{bitAt};
 ghost use Rattle.weight.specs.Weight.{zeroWeight, noSum};
-ghost use Rattle.threshold.specs.Threshold.{sum, restZero, shapeOf, atMost, wellFormed, checkWellFormed, sumFrom, runs, judgedFrom, judged};
+ghost use Rattle.threshold.specs.Threshold.{sum, restZero, shapeOf, atMost, wellFormed, checkWellFormed, sumFrom, runs, judgedFrom, judged, isMet};
 use answer::Answer;
 use weight::Sum;
 use weight::Weight;
@@ -149,10 +149,10 @@ pub fn form(t: Threshold, keys: usize) -> Answer
         return answer::refuse(25, 0, 0);
     }
     let sizes = t.sizes;
+    let total = weights_in(sizes, n);
     if some_empty(sizes, n) {
         return answer::refuse(26, 0, 0);
     }
-    let total = weights_in(sizes, n);
     at_most(total as u64, keys)
 }
 
@@ -229,4 +229,13 @@ pub fn judge(t: Threshold, count: usize, set: u16) -> Judgement
     let sizes = t.sizes;
     let weights = t.weights;
     judge_clauses(sizes, n, weights, set)
+}
+
+pub fn is_met(j: Judgement) -> bool
+    ensures { λ r. ⌜ r ≡ isMet j ⌝ }
+{
+    match j {
+        Judgement::Met => true,
+        Judgement::Short(k) => false,
+    }
 }

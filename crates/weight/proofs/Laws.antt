@@ -1,16 +1,8 @@
 -- The test of a product by a quotient. Assumes nothing.
-<<<<<<< HEAD
 use mathlib.Core.Path.{_≡_}
 use Prim.Native.Nat.{ℕ, _*_, _/_, _^_, _<_, _≤_}
 use native.Mathlib.Nat.{mul-zero, div-lt-iff-lt-mul, le-div-iff-mul-le}
 use native.Mathlib.Omega.{arith}
-=======
-use mathlib.Core.Path.{_≡_, refl}
-use Prim.Native.Nat.{ℕ, _*_, _/_, _^_, _<_, _≤_}
-use native.Mathlib.Nat.{mul-zero, div-lt-iff-lt-mul, le-div-iff-mul-le}
-use native.Mathlib.Omega.{arith}
-use Rattle.weight.specs.declared.Word.{Word}
->>>>>>> 456db35a830caa6fe3770aa6f74a347505a0ea62
 use Rattle.weight.specs.declared.Word.the-variants.{Fits}
 use Rattle.weight.specs.Weight.{inWord}
 

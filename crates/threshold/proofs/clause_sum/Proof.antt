@@ -3,7 +3,7 @@ use mathlib.Core.Bool.{Bool, false}
 use Prim.Native.Nat.{_+_, _<_, _-_}
 use native.Mathlib.Omega.{arith}
 use borrow.Author.Needs.{needs}
-use lib.ListN.{length, drop, take, getD, set}
+use lib.ListN.{length, drop, take, getD}
 use borrow.Author.Tests.{lt-ltb}
 use Rattle.lists.specs.Lists.{pick}
 use Rattle.lists.proofs.Walks.{head-of}

@@ -26,6 +26,9 @@ returns-3 : tie.Need-returns-3
 unfolding wellFormed
 returns-3 c = rw (ne-eqb _ _ (c .before .before .if1 .left), eq-eqb _ _ (c .before .if3 .taken)) (c .refuse2 .ensures)
 
+weights-in-requires : tie.Need-weights-in-requires
+weights-in-requires c κs = search needs
+
 some-empty-requires : tie.Need-some-empty-requires
 some-empty-requires c κs = search needs
 
@@ -34,17 +37,14 @@ refuse-requires-3 c κs = search needs
 
 returns-4 : tie.Need-returns-4
 unfolding wellFormed
-returns-4 c = rw (ne-eqb _ _ (c .before .before .before .before .before .if1 .left), ne-eqb _ _ (c .before .before .before .before .if3 .left), sym (c .before .before .some-empty .ensures) ∙ c .before .if4 .taken) (c .refuse3 .ensures)
-
-weights-in-requires : tie.Need-weights-in-requires
-weights-in-requires c κs = search needs
+returns-4 c = rw (ne-eqb _ _ (c .before .before .before .before .before .before .if1 .left), ne-eqb _ _ (c .before .before .before .before .before .if3 .left), sym (c .before .before .some-empty .ensures) ∙ c .before .if4 .taken) (c .refuse3 .ensures)
 
 at-most-requires-2 : tie.Need-at-most-requires-2
 at-most-requires-2 c κs = search needs
 
 returns-5 : tie.Need-returns-5
 unfolding wellFormed
-returns-5 c = rw (ne-eqb _ _ (c .before .before .before .before .before .before .if1 .left), ne-eqb _ _ (c .before .before .before .before .before .if3 .left), sym (c .before .before .before .some-empty .ensures) ∙ c .before .before .if4 .left, ← c .before .weights-in .ensures) (c .at-most2 .ensures)
+returns-5 c = rw (ne-eqb _ _ (c .before .before .before .before .before .before .if1 .left), ne-eqb _ _ (c .before .before .before .before .before .if3 .left), sym (c .before .before .some-empty .ensures) ∙ c .before .if4 .left, ← c .before .before .before .weights-in .ensures) (c .at-most2 .ensures)
 
 pub form-spec : {M : Type 1} → statement M
 form-spec =
@@ -56,9 +56,9 @@ form-spec =
     returns-2
     refuse-requires-2
     returns-3
+    weights-in-requires
     some-empty-requires
     refuse-requires-3
     returns-4
-    weights-in-requires
     at-most-requires-2
     returns-5)

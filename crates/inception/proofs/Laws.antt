@@ -1,0 +1,64 @@
+-- The sole key as the code reads it, and a group of checks by itself. Assumes nothing.
+use mathlib.Core.Path.{_≡_, refl, _∙_}
+use mathlib.Core.Bool.{Bool, true, false}
+use mathlib.Core.List.{List, [], _∷_}
+use Prim.Native.Nat.{ℕ, zero, suc, _<_}
+use native.Mathlib.Omega.{arith}
+use lib.ListN.{length, getD}
+use mir.Val.{Val}
+use denote.Laws.{Is}
+use Rattle.answer.specs.declared.Answer.{Answer}
+use Rattle.answer.specs.Answer.{accepted, passes, firstRefusal}
+use Rattle.answer.proofs.Laws.{passed, stopped}
+use Rattle.items.specs.declared.Items.{Items}
+use Rattle.items.proofs.Items.{the-row}
+use Rattle.items.proofs.Laws.{noItem, places-16}
+use Rattle.item.specs.declared.Item.{Item}
+use Rattle.item.specs.Item.{basicOf, transferableOf}
+use Rattle.threshold.specs.declared.Threshold.{Threshold}
+use Rattle.inception.specs.Identity.{firstKey, soleKey, commitsNothing, identity}
+
+-- an element that is there is the same under any default
+any-default : {A : Type 0} (d e : A) (xs : List A) (i : ℕ) → i < length xs → getD xs i d ≡ getD xs i e
+any-default d e [] i h = absurd (omega arith)
+any-default d e (x ∷ xs) zero h = refl
+any-default d e (x ∷ xs) (suc i) h = any-default d e xs i (omega arith)
+
+pub first-key : (keys : Items) (vs : List Val) → Is the-row keys vs → getD (keys .at) 0 noItem ≡ firstKey keys
+first-key keys vs p = let n : length (keys .at) ≡ 16 = places-16 keys vs p in any-default _ _ (keys .at) 0 (omega arith)
+
+-- a group of checks answers for itself
+pub alone : (xs : List Answer) → firstRefusal (firstRefusal xs ∷ []) ≡ firstRefusal xs
+unfolding firstRefusal
+alone [] = refl
+alone (x ∷ xs) = by-test (passes x) refl (alone xs)
+  where
+    by-test : (b : Bool) → passes x ≡ b → firstRefusal (firstRefusal xs ∷ []) ≡ firstRefusal xs
+        → firstRefusal (firstRefusal (x ∷ xs) ∷ []) ≡ firstRefusal (x ∷ xs)
+    by-test true e h = rw e h
+    by-test false e h = rw e (rw e)
+
+none : firstRefusal (accepted ∷ []) ≡ accepted
+unfolding firstRefusal
+none = refl
+
+-- the groups of a basic prefix, one after the other
+module _ (prefix : Item) (keys : Items) (t : Threshold) (next witnesses anchors : ℕ) where
+  pub not-basic : basicOf (prefix .code) ≡ false → identity prefix keys t next witnesses anchors ≡ accepted
+  unfolding identity
+  not-basic b = rw b
+
+  module _ (b : basicOf (prefix .code) ≡ true) (sole : Answer) (e : sole ≡ firstRefusal (soleKey prefix keys t)) where
+    pub not-sole : (sole .number ≡ 0 → ⊥) → identity prefix keys t next witnesses anchors ≡ sole
+    unfolding identity
+    not-sole h = rw (b, ← e) (stopped sole _ h)
+
+    pub may-commit : sole .number ≡ 0 → transferableOf (prefix .code) ≡ true → identity prefix keys t next witnesses anchors ≡ accepted
+    unfolding identity
+    may-commit h m = rw (b, m, ← e) (passed sole (accepted ∷ []) h ∙ none)
+
+    pub may-not-commit : sole .number ≡ 0 → transferableOf (prefix .code) ≡ false
+        → identity prefix keys t next witnesses anchors ≡ firstRefusal (commitsNothing next witnesses anchors)
+    unfolding identity
+    may-not-commit h m =
+        rw (b, m, ← e) (passed sole (firstRefusal (commitsNothing next witnesses anchors) ∷ []) h ∙ alone (commitsNothing next witnesses anchors))
