@@ -28,7 +28,7 @@ use Rattle.shape.specs.State.{holderShape}
 use Rattle.rules.specs.Rules.{inception, rotation, interaction, chains, chainsOnto, rewitness, genesisSn, follows, newWitnesses}
 use Rattle.member_set.specs.Members.{changeOf}
 use Rattle.ingest.specs.Judgement.{offered, answerTo, judgement, onState, onNothing, whereLive, nextState, nextAs, settled, incepted, rotates, interacts}
-use Rattle.ingest.specs.Fold.{folded, foldAnswer, foldState, foldedAs, foldable}
+use Rattle.fold.specs.Fold.{folded, foldAnswer, foldState, foldedAs, foldable}
 use Rattle.history.specs.History.{after, takes}
 
 -- ---- the checks in order: where the whole passes, each check passed

@@ -15,7 +15,7 @@ use Rattle.event.specs.declared.Event.{Event}
 use Rattle.state.specs.declared.Holder.{Holder}
 use Rattle.state.specs.State.{isHeld}
 use Rattle.ingest.specs.Judgement.{offered}
-use Rattle.ingest.specs.Fold.{folded}
+use Rattle.fold.specs.Fold.{folded}
 use Rattle.history.specs.History.{nothing, after, takes, held, kept, answers, foldAll, numbers, countFrom}
 use Rattle.history.proofs.Steps.{stays, fold-same, expects, takes-next, waits-next, takes-zero}
 

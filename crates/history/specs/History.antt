@@ -12,7 +12,7 @@ use Rattle.event.specs.declared.Event.{Event}
 use Rattle.state.specs.declared.Holder.{Holder}
 use Rattle.state.specs.State.{noState}
 use Rattle.ingest.specs.Judgement.{offered}
-use Rattle.ingest.specs.Fold.{folded}
+use Rattle.fold.specs.Fold.{folded}
 
 -- a holder of nothing
 abbrev pub nothing : Holder
