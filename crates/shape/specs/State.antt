@@ -16,8 +16,11 @@ use Rattle.shape.specs.Event.{ownShape, nextShape}
 
 -- "prefix, sn, latest said, latest type (0 IC, 1 RO, 2 IX), keys, threshold, next, next threshold, witnesses, toad, config,
 -- transferable 0 or 1, last establishment sn and said"
+abbrev pub latestShape : ℕ → ℕ
+latestShape latest = pick (leb latest 2) 0 3
+
 unfoldable pub stateHead : KeyState → ℕ
-stateHead s = firstFault (itemShape Prefix (s .prefix) ∷ itemShape Said (s .said) ∷ pick (leb (s .latest) 2) 0 3 ∷ [])
+stateHead s = firstFault (itemShape Prefix (s .prefix) ∷ itemShape Said (s .said) ∷ latestShape (s .latest) ∷ [])
 
 unfoldable pub stateTail : KeyState → ℕ
 stateTail s = firstFault (items.shapeOf Key (s .witnessing .witnesses) ∷ config.shapeOf (s .config) ∷ itemShape Said (s .last .said) ∷ [])

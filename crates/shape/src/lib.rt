@@ -2,7 +2,7 @@
 ghost use mathlib.Core.Path.{_≡_};
 ghost use Rattle.event.specs.declared.Ilk.the-variants.{Inception, Rotation, Interaction};
 ghost use Rattle.shape.specs.Event.{firstHead, laterHead, ownShape, nextShape, bodyShape, signedShape, shapeAs, eventShape};
-ghost use Rattle.shape.specs.State.{stateHead, stateTail, stateShape, holderShape};
+ghost use Rattle.shape.specs.State.{latestShape, stateHead, stateTail, stateShape, holderShape};
 use authority::Authority;
 use authority::Commitment;
 use event::Body;
@@ -155,6 +155,13 @@ pub fn of_event(e: Event) -> u8
     }
 }
 
+// "latest type (0 IC, 1 RO, 2 IX)"
+fn latest_shape(latest: u8) -> u8
+    ensures { λ r. ⌜ r ≡ latestShape latest ⌝ }
+{
+    if latest <= 2 { 0 } else { 3 }
+}
+
 fn state_head(s: KeyState) -> u8
     ensures { λ r. ⌜ r ≡ stateHead s ⌝ }
 {
@@ -168,7 +175,7 @@ fn state_head(s: KeyState) -> u8
     if m != 0 {
         return m;
     }
-    if s.latest <= 2 { 0 } else { 3 }
+    latest_shape(s.latest)
 }
 
 fn state_tail(s: KeyState) -> u8
