@@ -1,21 +1,25 @@
--- The sole key as the code reads it, and a group of checks by itself. Assumes nothing.
+-- The sole key as the code reads it, and the groups of checks one after the other. Assumes nothing.
 use mathlib.Core.Path.{_≡_, refl, _∙_}
 use mathlib.Core.Bool.{Bool, true, false}
 use mathlib.Core.List.{List, [], _∷_}
 use Prim.Native.Nat.{ℕ, zero, suc, _<_}
 use native.Mathlib.Omega.{arith}
+use lib.Dec.{eqb}
 use lib.ListN.{length, getD}
+use borrow.Author.Tests.{eq-eqb}
 use mir.Val.{Val}
 use denote.Laws.{Is}
 use Rattle.answer.specs.declared.Answer.{Answer}
-use Rattle.answer.specs.Answer.{accepted, passes, firstRefusal}
+use Rattle.lists.specs.Lists.{both}
+use Rattle.answer.specs.Answer.{refused, accepted, refuseUnless, passes, firstRefusal}
 use Rattle.answer.proofs.Laws.{passed, stopped}
 use Rattle.items.specs.declared.Items.{Items}
 use Rattle.items.proofs.Items.{the-row}
 use Rattle.items.proofs.Laws.{noItem, places-16}
 use Rattle.item.specs.declared.Item.{Item}
-use Rattle.item.specs.Item.{basicOf, transferableOf}
+use Rattle.item.specs.Item.{sameItem, basicOf, transferableOf}
 use Rattle.threshold.specs.declared.Threshold.{Threshold}
+use Rattle.threshold.specs.Threshold.{isSimple}
 use Rattle.inception.specs.Identity.{firstKey, soleKey, commitsNothing, identity}
 
 -- an element that is there is the same under any default
@@ -26,6 +30,14 @@ any-default d e (x ∷ xs) (suc i) h = any-default d e xs i (omega arith)
 
 pub first-key : (keys : Items) (vs : List Val) → Is the-row keys vs → getD (keys .at) 0 noItem ≡ firstKey keys
 first-key keys vs p = let n : length (keys .at) ≡ 16 = places-16 keys vs p in any-default _ _ (keys .at) 0 (omega arith)
+
+-- an only key at threshold one: what is left to see is whether it is the prefix
+pub sole-last : (prefix : Item) (keys : Items) (t : Threshold) → keys .count ≡ 1 → both (isSimple t) (eqb (t .simple) 1) ≡ true
+    → (key : Item) → key ≡ firstKey keys → (b : Bool) → sameItem prefix key ≡ b
+    → firstRefusal (soleKey prefix keys t) ≡ refuseUnless b (refused 14 0 0)
+unfolding firstRefusal
+sole-last prefix keys t n s key k true e = rw (eq-eqb (keys .count) 1 n, s, ← k, e)
+sole-last prefix keys t n s key k false e = rw (eq-eqb (keys .count) 1 n, s, ← k, e)
 
 -- a group of checks answers for itself
 pub alone : (xs : List Answer) → firstRefusal (firstRefusal xs ∷ []) ≡ firstRefusal xs

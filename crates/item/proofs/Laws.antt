@@ -8,7 +8,7 @@ use Prim.Native.Nat.{ℕ, _<_, _≤_}
 use native.Mathlib.Omega.{arith}
 use lib.Dec.{eqb}
 use borrow.Author.Tests.{eqb-true, eq-eqb, ne-eqb, le-leb, lt-leb}
-use Rattle.lists.specs.Lists.{pick, either, sameNumbers}
+use Rattle.lists.specs.Lists.{either, sameNumbers}
 use Rattle.lists.proofs.Facts.{both-true, both-in, same-numbers, same-refl}
 use Rattle.item.specs.declared.Item.{Item}
 use Rattle.item.specs.declared.Class.{Class}

@@ -2,7 +2,6 @@
 -- non-transferable; D and every digest prefix are transferable. A prefix is B, D or E to I; keys, witnesses, removals and
 -- additions are B or D; said, prior and next are E to I."
 use Prim.Native.Nat.{ℕ}
-use mathlib.Core.List.{List}
 use mathlib.Core.Bool.{Bool, true, false}
 use lib.Dec.{eqb, leb}
 use lib.ListN.{replicate}

@@ -1,11 +1,11 @@
 -- Lists of items as structs: how many places they have, and lists of the right shape. Assumes nothing.
-use mathlib.Core.Path.{_≡_, refl, sym, _∙_, ap}
+use mathlib.Core.Path.{_≡_, refl, sym}
 use mathlib.Core.Bool.{Bool, true, false}
 use mathlib.Core.List.{List, []}
 use Prim.Native.Nat.{ℕ, _≤_}
 use native.Mathlib.Omega.{arith}
 use lib.Dec.{leb}
-use lib.ListN.{length, take, drop, length-map, length-take}
+use lib.ListN.{length, drop, length-map, length-take}
 use mir.Val.{Val}
 use denote.Laws.{Is}
 use borrow.Author.Tests.{leb-true}

@@ -1,8 +1,8 @@
 -- Lists of items as structs. "Arrays with a count, unused places zero." "4 for a count above its limit"; "a byte outside
 -- its class" is 3; "an unused place that isn't zero is 3, looked at after its field's used ones."
 use Prim.Native.Nat.{ℕ}
-use mathlib.Core.List.{List, [], _∷_}
-use mathlib.Core.Bool.{Bool, true, false}
+use mathlib.Core.List.{List}
+use mathlib.Core.Bool.{Bool}
 use lib.Dec.{leb}
 use lib.ListN.{length, take, drop}
 use Rattle.lists.specs.Lists.{pick, all, any, padded}

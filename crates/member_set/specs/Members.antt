@@ -2,10 +2,10 @@
 -- 18 and 19: "1 witnesses, 2 removals, 3 additions". 38's detail: the count.
 use Prim.Native.Nat.{ℕ, _+_}
 use mathlib.Core.List.{List, [], _∷_, _++_}
-use mathlib.Core.Bool.{Bool, true, false, not}
+use mathlib.Core.Bool.{Bool, not}
 use lib.Dec.{leb}
 use lib.ListN.{length}
-use Rattle.lists.specs.Lists.{pick, any, all, filter, firstFrom, isAt}
+use Rattle.lists.specs.Lists.{pick, any, filter, isAt}
 use Rattle.lists.specs.declared.Found.{Found}
 use Rattle.lists.specs.declared.Found.the-variants.{At, Nothing}
 use Rattle.item.specs.declared.Item.{Item}

@@ -1,10 +1,10 @@
 -- Sets of places below 16 as the bits of a u16. "The number of distinct places is the number of ones in a 16-bit set."
 use Prim.Native.Nat.{ℕ, zero, suc, _+_, _*_, _/_, _%_, _^_}
 use mathlib.Core.List.{List, [], _∷_, _++_}
-use mathlib.Core.Bool.{Bool, true, false}
+use mathlib.Core.Bool.{Bool}
 use lib.Dec.{eqb, ltb}
 use lib.Bits.{bitOr}
-use Rattle.lists.specs.Lists.{pick, both, any}
+use Rattle.lists.specs.Lists.{pick, any}
 
 -- the places below n that have the property, rising: a set of places as a list without repeats
 unfoldable pub chosen : ℕ → (ℕ → Bool) → List ℕ

@@ -1,5 +1,8 @@
 -- Thresholds: the laws that the loops cite, and what a judgement depends on. Assumes nothing.
 --     weights-16           who owns a threshold knows that it has 16 weights
+--     form-plain, last     well formed is accepted without details; the last check in a row gives the answer
+--     sum-.., clause-..    how many weights there are, and the sum of a clause, place by place
+--     reached, short, all-reached   clause after clause
 --     judged-same          only the places below 16 matter to a judgement
 use mathlib.Core.Path.{_≡_, refl, sym, _∙_}
 use mathlib.Core.List.{List, [], _∷_}

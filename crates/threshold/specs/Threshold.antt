@@ -3,7 +3,7 @@
 use Prim.Native.Nat.{ℕ, _+_}
 use mathlib.Core.List.{List, [], _∷_}
 use mathlib.Core.Bool.{Bool, true, false}
-use lib.Dec.{eqb, ltb, leb}
+use lib.Dec.{eqb, leb}
 use lib.ListN.{length, take, drop}
 use Rattle.lists.specs.Lists.{pick, both, any, all}
 use Rattle.answer.specs.declared.Answer.{Answer}
@@ -94,28 +94,3 @@ isMet (Short k) = false
 -- a list without repeats is a set of places
 abbrev pub satisfied : Threshold → List ℕ → Bool
 satisfied t places = isMet (judged t (length places) (among places))
-
--- ---- "`satisfied_by_sorted_unique` says no to a list that isn't strictly rising; `satisfied_by` sorts and removes repeats."
--- The Rust 'fails closed on any unrepresentable case': so does a struct of bad shape.
-unfoldable pub risingAfter : ℕ → List ℕ → Bool
-risingAfter x [] = true
-risingAfter x (y ∷ ys) = both (ltb x y) (risingAfter y ys)
-
-abbrev pub rising : List ℕ → Bool
-rising [] = true
-rising (x ∷ xs) = risingAfter x xs
-
--- put into a rising list, where it is not there yet
-unfoldable pub insert : ℕ → List ℕ → List ℕ
-insert x [] = x ∷ []
-insert x (y ∷ ys) = pick (ltb x y) (x ∷ y ∷ ys) (pick (eqb x y) (y ∷ ys) (y ∷ insert x ys))
-
-unfoldable pub sortedUnique : List ℕ → List ℕ
-sortedUnique [] = []
-sortedUnique (x ∷ xs) = insert x (sortedUnique xs)
-
-unfoldable pub satisfiedBySortedUnique : Threshold → List ℕ → Bool
-satisfiedBySortedUnique t ps = both (eqb (shapeOf t) 0) (both (rising ps) (satisfied t ps))
-
-abbrev pub satisfiedBy : Threshold → List ℕ → Bool
-satisfiedBy t ps = satisfiedBySortedUnique t (sortedUnique ps)

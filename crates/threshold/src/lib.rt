@@ -159,9 +159,9 @@ pub fn form(t: Threshold, keys: usize) -> Answer
 pub fn check_well_formed(t: Threshold, keys: usize) -> Answer
     ensures { λ r. ⌜ r ≡ checkWellFormed t keys ⌝ }
 {
-    let number = shape(t);
-    if number != 0 {
-        return answer::refuse(number, 0, 0);
+    let fault = shape(t);
+    if fault != 0 {
+        return answer::refuse(fault, 0, 0);
     }
     form(t, keys)
 }

@@ -6,7 +6,11 @@ use mathlib.Core.Bool.{Bool, true, false}
 use lib.Dec.{eqb, ltb, leb}
 use lib.ListN.{length, take, drop, replicate}
 use Rattle.lists.specs.Lists.{pick, both, either, any, all, sameNumbers, padded}
-use Rattle.places.specs.Places.{chosen, setOf}
+use Rattle.lists.specs.declared.Found.{Found}
+use Rattle.lists.specs.declared.Found.the-variants.{At, Nothing}
+use Rattle.places.specs.Places.{chosen, setOf, withPlace}
+use Rattle.verification.specs.declared.Index.{Index}
+use Rattle.verification.specs.declared.Ondex.{Ondex}
 use Rattle.verification.specs.declared.Siger.{Siger}
 use Rattle.verification.specs.declared.Sigers.{Sigers}
 use Rattle.verification.specs.declared.Counted.{Counted}
@@ -58,6 +62,26 @@ exposedPlaces keys next sigs = chosen 16 (exposedAt keys next sigs)
 -- the same as bits
 abbrev pub countedOf : ℕ → ℕ → List Siger → Counted
 countedOf keys next sigs = record { verified = setOf 16 (verifiedAt keys sigs); exposed = setOf 16 (exposedAt keys next sigs) }
+
+-- ---- One at a time. "key lookup takes only the first, commitment lookup only the second"
+unfoldable pub placeWithin : ℕ → ℕ → Found
+placeWithin k n = pick (ltb k n) (At k) Nothing
+
+abbrev pub keyPlace : Index → ℕ → Found
+keyPlace index keys = placeWithin (index .0) keys
+
+abbrev pub commitmentPlace : Ondex → ℕ → Found
+commitmentPlace ondex next = placeWithin (ondex .0) next
+
+-- the sets so far with the places of one more signature: a verified one's commitment, and both where it is no copy
+unfoldable pub exposedWith : ℕ → ℕ → Siger → ℕ
+exposedWith next set s = pick (both (s .dual) (both (ltb (s .ondex .0) next) (s .matches))) (withPlace set (s .ondex .0)) set
+
+unfoldable pub countedWith : ℕ → ℕ → Counted → Siger → Counted
+countedWith keys next c s =
+    pick (both (s .verified) (ltb (s .index .0) keys))
+    (record { verified = withPlace (c .verified) (s .index .0); exposed = exposedWith next (c .exposed) s })
+    c
 
 -- ---- Shape. "ondex u32 (0 when the flag is 0)"; at most 48; unused places zero.
 abbrev pub noSiger : Siger

@@ -1,8 +1,6 @@
-use mathlib.Core.Path.{_≡_, sym, _∙_, ap}
+use mathlib.Core.Path.{_≡_, sym, _∙_}
 use borrow.Author.Needs.{needs}
-use Rattle.inception.specs.Identity.{firstKey}
-use Rattle.item.specs.Item.{sameItem}
-use Rattle.inception.proofs.Laws.{first-key}
+use Rattle.inception.proofs.Laws.{first-key, sole-last}
 use Rattle.threshold.specs.Threshold.{isSimple}
 use Rattle.lists.specs.Lists.{both}
 use lib.Dec.{eqb}
@@ -42,27 +40,23 @@ refuse-requires-3 : tie.Need-refuse-requires-3
 refuse-requires-3 c κs = search needs
 
 returns-3 : tie.Need-returns-3
-unfolding firstRefusal
 returns-3 c =
     let s = c .before .before .before .before .before .before .before .before in
     let a = s .args in
-    let e : both (isSimple (a .t)) (eqb (a .t .simple) 1) ≡ true = sym (c .before .before .before .before .before .is-simple-one .ensures) ∙ not-false _ (c .before .before .before .before .if2 .left) in
+    let one = sym (c .before .before .before .before .before .is-simple-one .ensures) ∙ not-false _ (c .before .before .before .before .if2 .left) in
     let k = first-key (a .keys) _ (s .good .1 .0) in
-    let f : sameItem (a .prefix) (firstKey (a .keys)) ≡ false = ap (sameItem (a .prefix)) (sym k) ∙ sym (c .before .before .same .ensures) ∙ not-true _ (c .before .if3 .taken) in
-    rw (eq-eqb _ _ (c .before .before .before .before .before .before .if1 .left), e, f) (c .refuse3 .ensures)
+    c .refuse3 .ensures ∙ sym (sole-last (a .prefix) (a .keys) (a .t) (c .before .before .before .before .before .before .if1 .left) one _ k false (sym (c .before .before .same .ensures) ∙ not-true _ (c .before .if3 .taken)))
 
 accept-requires : tie.Need-accept-requires
 accept-requires c κs = search needs
 
 returns-4 : tie.Need-returns-4
-unfolding firstRefusal
 returns-4 c =
     let s = c .before .before .before .before .before .before .before .before in
     let a = s .args in
-    let e : both (isSimple (a .t)) (eqb (a .t .simple) 1) ≡ true = sym (c .before .before .before .before .before .is-simple-one .ensures) ∙ not-false _ (c .before .before .before .before .if2 .left) in
+    let one = sym (c .before .before .before .before .before .is-simple-one .ensures) ∙ not-false _ (c .before .before .before .before .if2 .left) in
     let k = first-key (a .keys) _ (s .good .1 .0) in
-    let f : sameItem (a .prefix) (firstKey (a .keys)) ≡ true = ap (sameItem (a .prefix)) (sym k) ∙ sym (c .before .before .same .ensures) ∙ not-false _ (c .before .if3 .left) in
-    rw (eq-eqb _ _ (c .before .before .before .before .before .before .if1 .left), e, f) (c .accept .ensures)
+    c .accept .ensures ∙ sym (sole-last (a .prefix) (a .keys) (a .t) (c .before .before .before .before .before .before .if1 .left) one _ k true (sym (c .before .before .same .ensures) ∙ not-false _ (c .before .if3 .left)))
 
 pub sole-key-spec : {M : Type 1} → statement M
 sole-key-spec =

@@ -1,8 +1,7 @@
-use mathlib.Core.Path.{_≡_, sym, _∙_}
+use mathlib.Core.Path.{sym, _∙_}
 use borrow.Author.Needs.{needs}
 use borrow.Author.Tests.{eq-eqb, ne-eqb}
-use mathlib.Core.Bool.{true, false}
-use Rattle.toad.specs.Toad.{inRange, witnessThreshold}
+use Rattle.toad.specs.Toad.{witnessThreshold}
 use Rattle.toad.proofs.check_witness_threshold.Statement.{statement}
 use Rattle.toad.proofs.check_witness_threshold.Tie as tie
 
@@ -14,10 +13,7 @@ accept-requires c κs = search needs
 
 returns : tie.Need-returns
 unfolding witnessThreshold
-returns c =
-    let a = c .before .before .before .args in
-    let e : inRange (a .toad) (a .witnesses) ≡ true = sym (c .before .before .in-range .ensures) ∙ c .before .if1 .taken in
-    rw e (c .accept .ensures)
+returns c = rw (sym (c .before .before .in-range .ensures) ∙ c .before .if1 .taken) (c .accept .ensures)
 
 refuse-requires : tie.Need-refuse-requires
 refuse-requires c κs = search needs
@@ -25,9 +21,8 @@ refuse-requires c κs = search needs
 returns-2 : tie.Need-returns-2
 unfolding witnessThreshold
 returns-2 c =
-    let a = c .before .before .before .before .args in
-    let e : inRange (a .toad) (a .witnesses) ≡ false = sym (c .before .before .before .in-range .ensures) ∙ c .before .before .if1 .left in
-    rw (e, eq-eqb _ _ (c .before .if2 .taken)) (c .refuse .ensures)
+    let p = c .before .before in
+    rw (sym (p .before .in-range .ensures) ∙ p .if1 .left, eq-eqb _ _ (c .before .if2 .taken)) (c .refuse .ensures)
 
 refuse-requires-2 : tie.Need-refuse-requires-2
 refuse-requires-2 c κs = search needs
@@ -35,9 +30,8 @@ refuse-requires-2 c κs = search needs
 returns-3 : tie.Need-returns-3
 unfolding witnessThreshold
 returns-3 c =
-    let a = c .before .before .before .before .args in
-    let e : inRange (a .toad) (a .witnesses) ≡ false = sym (c .before .before .before .in-range .ensures) ∙ c .before .before .if1 .left in
-    rw (e, ne-eqb _ _ (c .before .if2 .left)) (c .refuse2 .ensures)
+    let p = c .before .before in
+    rw (sym (p .before .in-range .ensures) ∙ p .if1 .left, ne-eqb _ _ (c .before .if2 .left)) (c .refuse2 .ensures)
 
 pub check-witness-threshold-spec : {M : Type 1} → statement M
 check-witness-threshold-spec =

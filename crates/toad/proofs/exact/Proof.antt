@@ -1,7 +1,5 @@
-use mathlib.Core.Path.{_≡_, sym, _∙_}
+use mathlib.Core.Path.{sym, _∙_}
 use borrow.Author.Needs.{needs}
-use mathlib.Core.Bool.{true, false}
-use Rattle.toad.specs.Toad.{inRange}
 use Rattle.toad.proofs.exact.Statement.{statement}
 use Rattle.toad.proofs.exact.Tie as tie
 
@@ -12,19 +10,13 @@ take-requires : tie.Need-take-requires
 take-requires c κs = search needs
 
 returns : tie.Need-returns
-returns c =
-    let a = c .before .before .before .args in
-    let e : inRange (a .toad) (a .witnesses) ≡ true = sym (c .before .before .in-range .ensures) ∙ c .before .if1 .taken in
-    rw e (c .take .ensures)
+returns c = rw (sym (c .before .before .in-range .ensures) ∙ c .before .if1 .taken) (c .take .ensures)
 
 refuse-requires : tie.Need-refuse-requires
 refuse-requires c κs = search needs
 
 returns-2 : tie.Need-returns-2
-returns-2 c =
-    let a = c .before .before .before .args in
-    let e : inRange (a .toad) (a .witnesses) ≡ false = sym (c .before .before .in-range .ensures) ∙ c .before .if1 .left in
-    rw e (c .refuse .ensures)
+returns-2 c = rw (sym (c .before .before .in-range .ensures) ∙ c .before .if1 .left) (c .refuse .ensures)
 
 pub exact-spec : {M : Type 1} → statement M
 exact-spec = tie.close (tie.spec in-range-requires take-requires returns refuse-requires returns-2)

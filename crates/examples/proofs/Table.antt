@@ -1,0 +1,33 @@
+-- The marked lines of document 01 hold, all together: antt computes them. Assumes nothing.
+use mathlib.Core.Path.{refl}
+use Rattle.lists.specs.Lists.{any, all, filter, sameNumbers}
+use Rattle.number.specs.Number.{nextOf}
+use Rattle.item.specs.Item.{sameItem}
+use Rattle.places.specs.Places.{chosen, setOf}
+use Rattle.weight.specs.Weight.{plus, weigh}
+use Rattle.threshold.specs.Threshold.{shapeOf, sum, runs, sumFrom, judgedFrom, judged}
+use Rattle.satisfied.specs.Satisfied.{risingAfter, insert, sortedUnique, satisfiedBySortedUnique}
+use Rattle.toad.specs.Toad.{ampleOf}
+use Rattle.member_set.specs.Members.{joined, updated}
+use Rattle.verification.specs.Verification.{sameWire, firsts, verifiedAt, exposedAt}
+use Rattle.examples.specs.Starred.{Starred}
+
+pub starred : Starred
+unfolding any all filter sameNumbers nextOf sameItem chosen setOf plus weigh shapeOf sum runs sumFrom judgedFrom judged risingAfter insert sortedUnique satisfiedBySortedUnique ampleOf joined updated sameWire firsts verifiedAt exposedAt
+starred =
+    record {
+      halves = refl;
+      clauses = refl;
+      zero-denominator = refl;
+      overflow = refl;
+      simple-two = refl;
+      unsorted = refl;
+      exact = refl;
+      ample = refl;
+      next = refl;
+      members = refl;
+      exposed = refl;
+      exposed-bits = refl;
+      copies = refl;
+      copies-bits = refl;
+    }

@@ -1,0 +1,79 @@
+use mathlib.Core.Path.{_≡_, refl, sym, _∙_}
+use Prim.Native.Nat.{_-_}
+use native.Mathlib.Omega.{arith}
+use borrow.Author.Needs.{needs}
+use lib.ListN.{length, drop, take}
+use Rattle.lists.specs.Lists.{firstFrom}
+use Rattle.item.specs.Item.{isTransferable}
+use Rattle.items.specs.Items.{listed}
+use Rattle.items.proofs.Laws.{noItem, places-16}
+use Rattle.member_set.proofs.Laws.{found-here, found-next, found-none}
+use Rattle.member_set.proofs.first_transferable.Statement.{statement}
+use Rattle.member_set.proofs.first_transferable.Tie as tie
+
+abbrev Inv-loop : tie.InvT-loop
+Inv-loop n places i₀ i = (length places ≡ 16) × (firstFrom isTransferable 0 (take n places) ≡ firstFrom isTransferable i (drop i (take n places)))
+
+abbrev μ-loop : tie.MeasureT-loop
+μ-loop n places i₀ i = n - i
+
+used-requires : tie.Need-used-requires Inv-loop μ-loop
+used-requires c κs = search needs
+
+loop-holds : tie.Need-loop-holds Inv-loop μ-loop
+loop-holds c =
+    let s = c .before .before in
+    (places-16 (s .args .l) _ (s .good .0), refl)
+
+mul-x : tie.Need-mul-x Inv-loop μ-loop
+mul-x c = search needs
+
+array-copy-out-x : tie.Need-array-copy-out-x Inv-loop μ-loop
+array-copy-out-x c = search needs
+
+is-transferable-requires : tie.Need-is-transferable-requires Inv-loop μ-loop
+is-transferable-requires c κs = search needs
+
+returns : tie.Need-returns Inv-loop μ-loop
+returns c =
+    let p = c .before .before .before .before in
+    let u = p .before .before in
+    let a = u .before .args in
+    found-here isTransferable noItem ((a .l) .at) (listed (a .l)) (u .used .result) (p .loop .i) (u .used .ensures .1) (p .loop .inv .1) (omega arith) (omega arith) (sym (c .before .is-transferable .ensures) ∙ c .if1 .taken)
+
+add-i : tie.Need-add-i Inv-loop μ-loop
+add-i c = search needs
+
+loop-less : tie.Need-loop-less Inv-loop μ-loop
+loop-less c = search needs
+
+loop-again : tie.Need-loop-again Inv-loop μ-loop
+loop-again c =
+    let p = c .before .before .before .before in
+    let u = p .before .before in
+    let a = u .before .args in
+    (p .loop .inv .0, found-next isTransferable noItem ((a .l) .at) (listed (a .l)) (u .used .result) (p .loop .i) (u .used .ensures .1) (p .loop .inv .1) (omega arith) (omega arith) (sym (c .before .is-transferable .ensures) ∙ c .if1 .left))
+
+returns-2 : tie.Need-returns-2 Inv-loop μ-loop
+returns-2 c =
+    let p = c .before in
+    let u = p .before .before in
+    let a = u .before .args in
+    found-none isTransferable noItem ((a .l) .at) (listed (a .l)) (u .used .result) (p .loop .i) (u .used .ensures .1) (p .loop .inv .1) (c .loop-test .left)
+
+pub first-transferable-spec : {M : Type 1} → statement M
+first-transferable-spec =
+    tie.close
+    (tie.spec
+    Inv-loop
+    μ-loop
+    used-requires
+    loop-holds
+    mul-x
+    array-copy-out-x
+    is-transferable-requires
+    returns
+    add-i
+    loop-less
+    loop-again
+    returns-2)
