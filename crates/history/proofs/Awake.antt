@@ -21,6 +21,7 @@ use Rattle.verification.specs.declared.Siger.{Siger}
 use Rattle.verification.specs.Verification as verification
 use Rattle.authority.specs.Authority.{quorum, receipts}
 use Rattle.member_set.specs.Members.{repeatFrom, witnessFaults}
+use Rattle.toad.specs.Toad.{witnessThreshold}
 use Rattle.inception.specs.Identity.{identity}
 use Rattle.event.specs.declared.Ilk.{Ilk}
 use Rattle.event.specs.declared.Ilk.the-variants.{Inception, Rotation, Interaction, DelegatedInception, DelegatedRotation}
@@ -73,7 +74,7 @@ event ilk =
     }
 
 pub accepts : offered nothing (event Inception) .answer ≡ accepted
-unfolding offered answerTo judgement holderShape isHeld eventShape firstHead bodyShape ownShape nextShape signedShape firstFault firstRefusal classOf items.shapeOf config.shapeOf threshold.shapeOf verification.shapeOf any all inception sameNumber identity sameItem sameNumbers witnessFaults repeatFrom threshold.wellFormed threshold.sum quorum threshold.judged chosen verification.verifiedAt verification.firsts verification.sameWire receipts
+unfolding offered answerTo judgement holderShape isHeld eventShape firstHead bodyShape ownShape nextShape signedShape firstFault firstRefusal classOf items.shapeOf config.shapeOf threshold.shapeOf verification.shapeOf any all inception sameNumber identity sameItem sameNumbers witnessFaults repeatFrom witnessThreshold threshold.wellFormed threshold.sum quorum threshold.judged chosen verification.verifiedAt verification.firsts verification.sameWire receipts
 accepts = refl
 
 pub refuses : offered nothing (event DelegatedInception) .answer ≡ refused 6 0 0
