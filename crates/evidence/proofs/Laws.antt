@@ -52,9 +52,9 @@ module _ (keys next : ℕ) (sigs wigs : List Siger) where
   receipted-at : (toad n : ℕ) → receiptedOn toad (evidenceOf keys next sigs wigs) n ≡ receiptedBy toad n wigs
   receipted-at toad n =
       ap (receipts toad) (
-        ap placesIn (cut-set n (verifiedAt 16 wigs))
-        ∙ places-set (below n (verifiedAt 16 wigs))
-        ∙ chosen-same 16 (below n (verifiedAt 16 wigs)) (verifiedAt n wigs) (λ k h. verified-within n k wigs h))
+      ap placesIn (cut-set n (verifiedAt 16 wigs))
+      ∙ places-set (below n (verifiedAt 16 wigs))
+      ∙ chosen-same 16 (below n (verifiedAt 16 wigs)) (verifiedAt n wigs) (λ k h. verified-within n k wigs h))
 
   -- at every number of witnesses
   pub receipted-is : (toad : ℕ) → receiptedOn toad (evidenceOf keys next sigs wigs) ≡ (λ n. receiptedBy toad n wigs)
