@@ -1,0 +1,42 @@
+use mathlib.Core.Path.{_≡_, refl, sym, _∙_, ap}
+use borrow.Author.Needs.{needs}
+use Rattle.ingest.proofs.Laws.{bad-holder, bad-event, judged}
+use Rattle.ingest.proofs.offer.Statement.{statement}
+use Rattle.ingest.proofs.offer.Tie as tie
+
+of-holder-requires : tie.Need-of-holder-requires
+of-holder-requires c κs = search needs
+
+refuse-requires : tie.Need-refuse-requires
+refuse-requires c κs = search needs
+
+returns : tie.Need-returns
+returns c = c .refuse .ensures ∙ bad-holder _ _ _ (c .before .before .of-holder .ensures) (c .before .if1 .taken)
+
+of-event-requires : tie.Need-of-event-requires
+of-event-requires c κs = search needs
+
+refuse-requires-2 : tie.Need-refuse-requires-2
+refuse-requires-2 c κs = search needs
+
+returns-2 : tie.Need-returns-2
+returns-2 c = c .refuse2 .ensures ∙ bad-event _ _ _ (c .before .before .before .before .of-holder .ensures) (c .before .before .before .if1 .left) _ (c .before .before .of-event .ensures) (c .before .if2 .taken)
+
+judge-requires : tie.Need-judge-requires
+judge-requires c κs = search needs
+
+returns-3 : tie.Need-returns-3
+returns-3 c = c .judge .ensures ∙ judged _ _ _ (c .before .before .before .before .of-holder .ensures) (c .before .before .before .if1 .left) _ (c .before .before .of-event .ensures) (c .before .if2 .left)
+
+pub offer-spec : {M : Type 1} → statement M
+offer-spec =
+    tie.close
+    (tie.spec
+    of-holder-requires
+    refuse-requires
+    returns
+    of-event-requires
+    refuse-requires-2
+    returns-2
+    judge-requires
+    returns-3)
