@@ -5,20 +5,18 @@ use mathlib.Core.List.{List, [], _∷_}
 use mathlib.Core.Bool.{Bool, true, false}
 use Rattle.lists.specs.Lists.{pick}
 use Rattle.answer.specs.declared.Answer.{Answer}
-use Rattle.answer.specs.Answer.{refused, accepted, firstRefusal}
+use Rattle.answer.specs.Answer.{refused, accepted}
 use Rattle.items.specs.Items.{packed}
 use Rattle.member_set.specs.Members.{changeOf}
 use Rattle.event.specs.declared.Ilk.{Ilk}
 use Rattle.event.specs.declared.Ilk.the-variants.{Inception, Rotation, Interaction, DelegatedInception, DelegatedRotation}
 use Rattle.event.specs.declared.Event.{Event}
-use Rattle.shape.specs.Event.{eventShape}
 use Rattle.state.specs.declared.KeyState.{KeyState}
 use Rattle.state.specs.declared.Holder.{Holder}
 use Rattle.state.specs.State.{isHeld, holding, genesis, rotated, stepped}
-use Rattle.shape.specs.State.{holderShape}
 use Rattle.rules.specs.Rules.{newWitnesses}
 use Rattle.ingest.specs.declared.Offered.{Offered}
-use Rattle.ingest.specs.Judgement.{settled}
+use Rattle.ingest.specs.Judgement.{shaped, settled}
 
 abbrev pub foldable : Ilk → Holder → Event → Answer
 foldable Inception h e = accepted
@@ -35,7 +33,7 @@ foldedAs DelegatedInception s e = s
 foldedAs DelegatedRotation s e = s
 
 unfoldable pub foldAnswer : Holder → Event → Answer
-foldAnswer h e = firstRefusal (refused (holderShape h) 0 0 ∷ refused (eventShape e) 0 0 ∷ foldable (e .ilk) h e ∷ [])
+foldAnswer h e = shaped h e (foldable (e .ilk) h e)
 
 unfoldable pub foldState : KeyState → Event → KeyState
 foldState s e = foldedAs (e .ilk) s e

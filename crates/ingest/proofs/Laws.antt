@@ -26,8 +26,7 @@ use Rattle.state.specs.State.{mayMove, isHeld, holding}
 use Rattle.shape.specs.Event.{eventShape}
 use Rattle.shape.specs.State.{holderShape}
 use Rattle.rules.specs.Rules.{inception, rotation, interaction, changed}
-use Rattle.ingest.specs.declared.Offered.{Offered}
-use Rattle.ingest.specs.Judgement.{incepted, rotates, interacts, onNothing, whereLive, onState, judgement, answerTo, nextAs, nextState, settled, offered}
+use Rattle.ingest.specs.Judgement.{incepted, rotates, interacts, onNothing, whereLive, onState, judgement, nextAs, nextState, shaped, settled}
 
 -- ---- a refusal leaves the holder, an acceptance holds the next state
 pub stays : (h : Holder) (x whole : Answer) (after : Holder) → x ≡ whole → (x .number ≡ 0 → ⊥) → record { answer = x; holder = h } ≡ settled h whole after
@@ -106,30 +105,27 @@ either-clean : (t : Bool) (x y : Answer) → Clean x → Clean y → Clean (pick
 either-clean true x y p q = p
 either-clean false x y p q = q
 
-clean-judgement : (h : Holder) (e : Event) → Clean (judgement h e)
+pub clean-judgement : (h : Holder) (e : Event) → Clean (judgement h e)
 unfolding judgement onState
 clean-judgement h e =
     either-clean (isHeld h) _ _ (either-clean (mayMove (h .state)) _ _ (clean-live (e .ilk) (h .state) e) (λ p. clash (sym p))) (clean-nothing (e .ilk) e)
 
--- ---- the entry: the holder's shape, the event's shape, then the judgement
-module _ (h : Holder) (e : Event) (n : ℕ) (en : n ≡ holderShape h) where
-  pub bad-holder : (n ≡ 0 → ⊥) → record { answer = refused n 0 0; holder = h } ≡ offered h e
-  unfolding offered answerTo
+-- ---- an entry: the holder's shape, the event's shape, then x
+module _ (h : Holder) (e : Event) (x : Answer) (after : Holder) (n : ℕ) (en : n ≡ holderShape h) where
+  pub bad-holder : (n ≡ 0 → ⊥) → record { answer = refused n 0 0; holder = h } ≡ settled h (shaped h e x) after
   bad-holder ne = stays h (refused n 0 0) _ _ (here (refused n 0 0) (refused (holderShape h) 0 0) _ (ap (λ (k : ℕ). refused k 0 0) en) ne) ne
 
   module _ (zn : n ≡ 0) (m : ℕ) (em : m ≡ eventShape e) where
     good-holder : (xs : List Answer) → firstRefusal (refused (holderShape h) 0 0 ∷ xs) ≡ firstRefusal xs
     good-holder xs = past (refused n 0 0) (refused (holderShape h) 0 0) xs (ap (λ (k : ℕ). refused k 0 0) en) zn
 
-    pub bad-event : (m ≡ 0 → ⊥) → record { answer = refused m 0 0; holder = h } ≡ offered h e
-    unfolding offered answerTo
+    pub bad-event : (m ≡ 0 → ⊥) → record { answer = refused m 0 0; holder = h } ≡ settled h (shaped h e x) after
     bad-event ne =
         stays h (refused m 0 0) _ _ (here (refused m 0 0) (refused (eventShape e) 0 0) _ (ap (λ (k : ℕ). refused k 0 0) em) ne ∙ sym (good-holder _)) ne
 
-    pub judged : m ≡ 0 → settled h (judgement h e) (holding (nextState (h .state) e)) ≡ offered h e
-    unfolding offered answerTo
-    judged zm =
-        ap (λ (x : Answer). settled h x (holding (nextState (h .state) e))) (
-          last (judgement h e) (judgement h e) (clean-judgement h e) refl
-          ∙ sym (past (refused m 0 0) (refused (eventShape e) 0 0) (judgement h e ∷ []) (ap (λ (k : ℕ). refused k 0 0) em) zm)
+    pub good-shape : m ≡ 0 → Clean x → settled h x after ≡ settled h (shaped h e x) after
+    good-shape zm clean =
+        ap (λ (y : Answer). settled h y after) (
+          last x x clean refl
+          ∙ sym (past (refused m 0 0) (refused (eventShape e) 0 0) (x ∷ []) (ap (λ (k : ℕ). refused k 0 0) em) zm)
           ∙ sym (good-holder _))

@@ -67,8 +67,11 @@ onState s e = pick (mayMove s) (whereLive (e .ilk) s e) (refused 10 0 0)
 unfoldable pub judgement : Holder → Event → Answer
 judgement h e = pick (isHeld h) (onState (h .state) e) (onNothing (e .ilk) e)
 
+abbrev pub shaped : Holder → Event → Answer → Answer
+shaped h e x = firstRefusal (refused (holderShape h) 0 0 ∷ refused (eventShape e) 0 0 ∷ x ∷ [])
+
 unfoldable pub answerTo : Holder → Event → Answer
-answerTo h e = firstRefusal (refused (holderShape h) 0 0 ∷ refused (eventShape e) 0 0 ∷ judgement h e ∷ [])
+answerTo h e = shaped h e (judgement h e)
 
 -- ---- The next state where the event is accepted
 abbrev pub nextAs : Ilk → KeyState → Event → KeyState
