@@ -12,7 +12,7 @@ use borrow.Author.Tests.{eqb-true, eq-eqb, ne-eqb}
 use Rattle.lists.specs.Lists.{pick}
 use Rattle.lists.proofs.Facts.{clash}
 use Rattle.answer.specs.declared.Answer.{Answer}
-use Rattle.answer.specs.Answer.{refused, accepted, passes, refuseIf, refuseUnless, firstRefusal, firstFault}
+use Rattle.answer.specs.Answer.{accepted, passes, refuseIf, refuseUnless, firstRefusal, firstFault}
 
 -- a check that passes leaves the answer to those behind it; one that refuses gives it
 pub passed : (x : Answer) (xs : List Answer) → x .number ≡ 0 → firstRefusal (x ∷ xs) ≡ firstRefusal xs

@@ -3,16 +3,14 @@ use mathlib.Core.Path.{_≡_, refl, _∙_, ap, ap₂, fun-ext}
 use mathlib.Core.Bool.{Bool, true, false}
 use mathlib.Core.List.{List, [], _∷_}
 use Prim.Native.Nat.{ℕ, _<_}
-use native.Mathlib.Omega.{arith}
 use lib.Dec.{eqb, ltb}
 use borrow.Author.Tests.{eqb-true, lt-ltb}
 use Rattle.lists.specs.Lists.{both, either, any}
-use Rattle.places.specs.Places.{chosen, setOf, placesIn, cutTo}
+use Rattle.places.specs.Places.{placesIn}
 use Rattle.places.proofs.Laws.{places-set, cut-set, chosen-same, below}
-use Rattle.answer.specs.declared.Answer.{Answer}
 use Rattle.threshold.specs.declared.Threshold.{Threshold}
 use Rattle.verification.specs.declared.Siger.{Siger}
-use Rattle.verification.specs.Verification.{signsAt, firsts, verifiedAt, exposedAt, verifiedPlaces}
+use Rattle.verification.specs.Verification.{signsAt, firsts, verifiedAt, exposedAt}
 use Rattle.authority.specs.Authority.{quorum, receipts, signedBy, exposedBy, receiptedBy}
 use Rattle.evidence.specs.Evidence.{evidenceOf, signedOn, exposedOn, receiptedOn}
 

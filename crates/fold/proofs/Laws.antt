@@ -2,17 +2,14 @@
 use mathlib.Core.Path.{_≡_, refl, sym, _∙_, ap}
 use mathlib.Core.Bool.{Bool, true, false}
 use mathlib.Core.List.{List, []}
-use Prim.Native.Nat.{ℕ}
 use lib.Dec.{leb}
 use lib.ListN.{length}
 use borrow.Author.Tests.{eq-eqb}
 use Rattle.lists.specs.Lists.{pick}
 use Rattle.lists.proofs.Facts.{clash}
-use Rattle.answer.specs.declared.Answer.{Answer}
-use Rattle.answer.specs.Answer.{refused, accepted, passes}
+use Rattle.answer.specs.Answer.{refused, accepted}
 use Rattle.answer.proofs.Laws.{Clean}
 use Rattle.item.specs.declared.Item.{Item}
-use Rattle.items.specs.declared.Items.{Items}
 use Rattle.items.specs.Items.{packed}
 use Rattle.member_set.specs.declared.Change.{Change}
 use Rattle.member_set.specs.Members.{changeOf}

@@ -1,8 +1,5 @@
 -- "Unchecked fold: IC starts afresh, even over a state; RO and IX set fields as `rolled` and `stepped` do; DI and DR answer 6,
 -- RO and IX on nothing 8, an overfull list 38."
-use Prim.Native.Nat.{ℕ}
-use mathlib.Core.List.{List, [], _∷_}
-use mathlib.Core.Bool.{Bool, true, false}
 use Rattle.lists.specs.Lists.{pick}
 use Rattle.answer.specs.declared.Answer.{Answer}
 use Rattle.answer.specs.Answer.{refused, accepted}

@@ -1,20 +1,18 @@
 -- What demand 2's definition shuts out: a holder that always refuses, one with a constant answer, and one that says 0 and does
 -- nothing. By three offers that antt computes. Assumes nothing.
-use mathlib.Core.Path.{_≡_, refl, sym, _∙_, ap}
-use mathlib.Core.List.{List, [], _∷_, _++_}
-use mathlib.Core.Bool.{Bool, true, false}
+use mathlib.Core.Path.{_≡_, refl, ap}
+use mathlib.Core.List.{[], _∷_}
+use mathlib.Core.Bool.{true, false}
 use Prim.Native.Nat.{ℕ}
-use native.Mathlib.Omega.{arith}
 use lib.ListN.{replicate}
-use Rattle.lists.specs.Lists.{any, all, sameNumbers, filter}
-use Rattle.number.specs.Number.{small, sameNumber, nextOf}
-use Rattle.answer.specs.declared.Answer.{Answer}
+use Rattle.lists.specs.Lists.{any, all, sameNumbers}
+use Rattle.number.specs.Number.{small, sameNumber}
 use Rattle.answer.specs.Answer.{refused, accepted, passes, firstRefusal, firstFault}
 use Rattle.item.specs.declared.Item.{Item}
 use Rattle.item.specs.Item.{classOf, sameItem, zeroItem}
 use Rattle.items.specs.Items as items
 use Rattle.config.specs.Config as config
-use Rattle.places.specs.Places.{chosen, setOf}
+use Rattle.places.specs.Places.{chosen}
 use Rattle.threshold.specs.declared.Threshold.{Threshold}
 use Rattle.threshold.specs.Threshold as threshold
 use Rattle.verification.specs.declared.Siger.{Siger}
@@ -24,14 +22,13 @@ use Rattle.member_set.specs.Members.{repeatFrom, witnessFaults}
 use Rattle.toad.specs.Toad.{witnessThreshold}
 use Rattle.inception.specs.Identity.{identity}
 use Rattle.event.specs.declared.Ilk.{Ilk}
-use Rattle.event.specs.declared.Ilk.the-variants.{Inception, Rotation, Interaction, DelegatedInception, DelegatedRotation}
+use Rattle.event.specs.declared.Ilk.the-variants.{Inception, DelegatedInception}
 use Rattle.event.specs.declared.Event.{Event}
 use Rattle.shape.specs.Event.{firstHead, ownShape, nextShape, bodyShape, signedShape, eventShape}
-use Rattle.state.specs.declared.Holder.{Holder}
-use Rattle.state.specs.State.{mayMove, isHeld, noThreshold}
+use Rattle.state.specs.State.{isHeld, noThreshold}
 use Rattle.shape.specs.State.{holderShape}
-use Rattle.rules.specs.Rules.{inception, rotation, interaction}
-use Rattle.ingest.specs.Judgement.{offered, answerTo, judgement, onState, nextState}
+use Rattle.rules.specs.Rules.{inception}
+use Rattle.ingest.specs.Judgement.{offered, answerTo, judgement}
 use Rattle.history.specs.History.{nothing, after}
 use Rattle.history.proofs.Steps.{moves}
 

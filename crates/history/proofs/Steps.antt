@@ -3,10 +3,7 @@ use mathlib.Core.Path.{_≡_, refl, sym, _∙_, ap}
 use mathlib.Core.List.{List, [], _∷_}
 use mathlib.Core.Bool.{Bool, true, false}
 use Prim.Native.Nat.{ℕ, _+_}
-use native.Mathlib.Omega.{arith}
-use lib.Dec.{eqb}
-use borrow.Author.Tests.{eqb-true, eq-eqb}
-use Rattle.lists.specs.Lists.{pick, both}
+use Rattle.lists.specs.Lists.{pick}
 use Rattle.lists.proofs.Facts.{clash}
 use Rattle.number.specs.declared.Number.{Number}
 use Rattle.number.specs.declared.Successor.{Successor}
@@ -14,7 +11,7 @@ use Rattle.number.specs.declared.Successor.the-variants.{Of, Last}
 use Rattle.number.specs.Number.{small, value, sameNumber, nextOf}
 use Rattle.number.proofs.Laws.{same-number, next-value}
 use Rattle.answer.specs.declared.Answer.{Answer}
-use Rattle.answer.specs.Answer.{refused, accepted, refuseUnless, passes, firstRefusal}
+use Rattle.answer.specs.Answer.{refused, accepted, passes, firstRefusal}
 use Rattle.answer.proofs.Laws.{clean-first}
 use Rattle.event.specs.declared.Ilk.{Ilk}
 use Rattle.event.specs.declared.Ilk.the-variants.{Inception, Rotation, Interaction, DelegatedInception, DelegatedRotation}
@@ -27,7 +24,7 @@ use Rattle.state.specs.State.{mayMove, isHeld, holding, begun, seeded, genesis}
 use Rattle.shape.specs.State.{holderShape}
 use Rattle.rules.specs.Rules.{inception, rotation, interaction, chains, chainsOnto, rewitness, genesisSn, follows, newWitnesses}
 use Rattle.member_set.specs.Members.{changeOf}
-use Rattle.ingest.specs.Judgement.{offered, answerTo, judgement, onState, onNothing, whereLive, nextState, nextAs, settled, incepted, rotates, interacts}
+use Rattle.ingest.specs.Judgement.{offered, answerTo, judgement, onState, onNothing, whereLive, nextState, nextAs, incepted, rotates, interacts}
 use Rattle.fold.specs.Fold.{folded, foldAnswer, foldState, foldedAs, foldable}
 use Rattle.history.specs.History.{after, takes}
 

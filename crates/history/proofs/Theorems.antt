@@ -6,7 +6,7 @@
 use mathlib.Core.Path.{_≡_, refl, sym, _∙_, ap}
 use mathlib.Core.List.{List, [], _∷_}
 use mathlib.Core.Bool.{Bool, true, false}
-use Prim.Native.Nat.{ℕ, _+_}
+use Prim.Native.Nat.{ℕ}
 use lib.ListN.{length, replicate}
 use Rattle.lists.specs.Lists.{pick}
 use Rattle.answer.specs.declared.Answer.{Answer}
@@ -14,8 +14,6 @@ use Rattle.answer.specs.Answer.{accepted}
 use Rattle.event.specs.declared.Event.{Event}
 use Rattle.state.specs.declared.Holder.{Holder}
 use Rattle.state.specs.State.{isHeld}
-use Rattle.ingest.specs.Judgement.{offered}
-use Rattle.fold.specs.Fold.{folded}
 use Rattle.history.specs.History.{nothing, after, takes, held, kept, answers, foldAll, numbers, countFrom}
 use Rattle.history.proofs.Steps.{stays, fold-same, expects, takes-next, waits-next, takes-zero}
 

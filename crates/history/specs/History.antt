@@ -2,10 +2,9 @@
 -- what each was answered, and the unchecked fold of a list.
 use Prim.Native.Nat.{ℕ, _+_}
 use mathlib.Core.List.{List, [], _∷_}
-use mathlib.Core.Bool.{Bool, true, false}
-use lib.ListN.{replicate}
+use mathlib.Core.Bool.{Bool, false}
 use Rattle.lists.specs.Lists.{pick}
-use Rattle.number.specs.Number.{small, value}
+use Rattle.number.specs.Number.{value}
 use Rattle.answer.specs.declared.Answer.{Answer}
 use Rattle.answer.specs.Answer.{passes}
 use Rattle.event.specs.declared.Event.{Event}

@@ -8,7 +8,7 @@ use borrow.Author.Tests.{eq-eqb, ne-eqb}
 use Rattle.lists.specs.Lists.{pick}
 use Rattle.lists.proofs.Facts.{clash}
 use Rattle.answer.specs.declared.Answer.{Answer}
-use Rattle.answer.specs.Answer.{refused, accepted, passes, firstRefusal}
+use Rattle.answer.specs.Answer.{refused, firstRefusal}
 use Rattle.answer.proofs.Laws.{Clean, clean-first, here, past, last}
 use Rattle.item.specs.declared.Item.{Item}
 use Rattle.items.specs.Items.{packed}
@@ -126,6 +126,6 @@ module _ (h : Holder) (e : Event) (x : Answer) (after : Holder) (n : ℕ) (en : 
     pub good-shape : m ≡ 0 → Clean x → settled h x after ≡ settled h (shaped h e x) after
     good-shape zm clean =
         ap (λ (y : Answer). settled h y after) (
-          last x x clean refl
-          ∙ sym (past (refused m 0 0) (refused (eventShape e) 0 0) (x ∷ []) (ap (λ (k : ℕ). refused k 0 0) em) zm)
-          ∙ sym (good-holder _))
+        last x x clean refl
+        ∙ sym (past (refused m 0 0) (refused (eventShape e) 0 0) (x ∷ []) (ap (λ (k : ℕ). refused k 0 0) em) zm)
+        ∙ sym (good-holder _))

@@ -1,12 +1,9 @@
 -- Demand 2's definition: what an event gets, for every holder and every event. The lists of checks are in rules/specs/Rules,
 -- the sets of places in verification/specs/Verification, the next states in state/specs/State.
-use Prim.Native.Nat.{ℕ}
-use mathlib.Core.List.{List, [], _∷_}
-use mathlib.Core.Bool.{Bool, true, false}
-use lib.ListN.{length}
+use mathlib.Core.List.{[], _∷_}
 use Rattle.lists.specs.Lists.{pick}
 use Rattle.answer.specs.declared.Answer.{Answer}
-use Rattle.answer.specs.Answer.{refused, accepted, refuseUnless, firstRefusal, passes}
+use Rattle.answer.specs.Answer.{refused, firstRefusal, passes}
 use Rattle.items.specs.Items.{packed}
 use Rattle.verification.specs.Verification.{signatures}
 use Rattle.authority.specs.Authority.{signedBy, exposedBy, receiptedBy}

@@ -1,15 +1,14 @@
 -- Two words against the number that they stand for. Assumes nothing.
 use mathlib.Core.Path.{_≡_, refl, sym, _∙_, ap}
 use mathlib.Core.Bool.{Bool, true, false}
-use Prim.Native.Nat.{ℕ, zero, suc, _+_, _*_, _/_, _%_, _^_, _<_, _≤_}
+use Prim.Native.Nat.{ℕ, _+_, _*_, _^_, _<_, _≤_}
 use native.Mathlib.Nat.{mul-add-div-right, mul-add-mod-self-right, div-eq-of-lt, mod-eq-of-lt, add-zero, mul-le-mul-right, div-add-mod'}
 use native.Mathlib.Omega.{arith}
 use lib.Dec.{eqb, ltb}
 use borrow.Author.Tests.{lt-ltb, le-ltb, eqb-true, ltb-true, ltb-false}
-use Rattle.lists.specs.Lists.{pick, both}
+use Rattle.lists.specs.Lists.{pick}
 use Rattle.lists.proofs.Facts.{both-true}
 use Rattle.number.specs.declared.Number.{Number}
-use Rattle.number.specs.declared.Successor.{Successor}
 use Rattle.number.specs.declared.Successor.the-variants.{Of, Last}
 use Rattle.number.specs.Number.{value, words, sameNumber, nextOf}
 

@@ -3,10 +3,10 @@
 -- list serves lists of signatures and sets of places.
 use Prim.Native.Nat.{ℕ}
 use mathlib.Core.List.{List, [], _∷_}
-use mathlib.Core.Bool.{Bool, true, false, not}
+use mathlib.Core.Bool.{true}
 use lib.Dec.{eqb}
 use lib.ListN.{length}
-use Rattle.lists.specs.Lists.{pick, both}
+use Rattle.lists.specs.Lists.{pick}
 use Rattle.number.specs.declared.Number.{Number}
 use Rattle.number.specs.declared.Successor.{Successor}
 use Rattle.number.specs.declared.Successor.the-variants.{Of, Last}
@@ -15,7 +15,6 @@ use Rattle.answer.specs.declared.Answer.{Answer}
 use Rattle.answer.specs.Answer.{refused, accepted, refuseIf, refuseUnless, firstRefusal, passes}
 use Rattle.item.specs.declared.Item.{Item}
 use Rattle.item.specs.Item.{sameItem, isTransferable}
-use Rattle.items.specs.declared.Items.{Items}
 use Rattle.items.specs.Items.{listed, packed}
 use Rattle.config.specs.declared.Config.{Config}
 use Rattle.config.specs.Config.{establishmentOnly}

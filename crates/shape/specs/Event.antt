@@ -1,11 +1,7 @@
 -- The shape of an event struct: "Struct entries apply the same classes and limits .. in field order", 3 and 4.
 use Prim.Native.Nat.{ℕ}
-use mathlib.Core.List.{List, [], _∷_}
-use mathlib.Core.Bool.{Bool, true, false}
-use Rattle.lists.specs.Lists.{pick}
+use mathlib.Core.List.{[], _∷_}
 use Rattle.answer.specs.Answer.{firstFault}
-use Rattle.item.specs.declared.Item.{Item}
-use Rattle.item.specs.declared.Kind.{Kind}
 use Rattle.item.specs.declared.Kind.the-variants.{Prefix, Key, Said}
 use Rattle.item.specs.Item.{itemShape}
 use Rattle.items.specs.Items as items

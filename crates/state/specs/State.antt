@@ -1,13 +1,11 @@
 -- What an accepted event makes of a key state: "Acceptance sets fields as `seed`, `apply_rotation` and `interact_mut` do."
-use Prim.Native.Nat.{ℕ}
-use mathlib.Core.List.{List, [], _∷_}
+use mathlib.Core.List.{[]}
 use mathlib.Core.Bool.{Bool, true, false, not}
 use lib.Dec.{eqb}
 use lib.ListN.{replicate}
-use Rattle.lists.specs.Lists.{pick, both}
+use Rattle.lists.specs.Lists.{both}
 use Rattle.number.specs.declared.Number.{Number}
 use Rattle.number.specs.Number.{small}
-use Rattle.item.specs.declared.Item.{Item}
 use Rattle.item.specs.Item.{isTransferable, zeroItem}
 use Rattle.items.specs.declared.Items.{Items}
 use Rattle.items.specs.Items.{packed}

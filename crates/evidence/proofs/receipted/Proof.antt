@@ -1,4 +1,3 @@
-use mathlib.Core.Path.{_≡_, refl, sym, _∙_, ap}
 use borrow.Author.Needs.{needs}
 use Rattle.evidence.proofs.receipted.Statement.{statement}
 use Rattle.evidence.proofs.receipted.Tie as tie

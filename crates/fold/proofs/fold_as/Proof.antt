@@ -1,8 +1,7 @@
-use mathlib.Core.Path.{_≡_, refl, sym, _∙_, ap}
+use mathlib.Core.Path.{_∙_}
 use borrow.Author.Needs.{needs}
 use mathlib.Core.Bool.{true, false}
 use borrow.Author.Tests.{not-true, not-false}
-use Rattle.state.specs.State.{isHeld}
 use Rattle.state.proofs.Laws.{is-held}
 use Rattle.fold.proofs.Laws.{fold-as, none-to-roll, none-to-step, rolled-on, stepped-on}
 use Rattle.fold.proofs.fold_as.Statement.{statement}

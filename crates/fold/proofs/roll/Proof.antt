@@ -1,10 +1,6 @@
-use mathlib.Core.Path.{_≡_, refl, sym, _∙_, ap}
+use mathlib.Core.Path.{_∙_, ap}
 use borrow.Author.Needs.{needs}
-use Rattle.items.specs.declared.Items.{Items}
 use Rattle.member_set.specs.declared.Change.{Change}
-use Rattle.state.specs.State.{rotated, holding}
-use Rattle.rules.specs.Rules.{newWitnesses}
-use Rattle.rules.proofs.Laws.{room}
 use Rattle.ingest.proofs.Laws.{stays}
 use Rattle.fold.proofs.Laws.{rolls}
 use Rattle.fold.proofs.roll.Statement.{statement}
@@ -23,7 +19,7 @@ take-requires : tie.Need-take-requires
 take-requires c κs = search needs
 
 returns-2 : tie.Need-returns-2
-returns-2 c = 
+returns-2 c =
     let a = c .before .before .before .before .before .before .before .before .before .before .before .before .before .before .args in
     c .take .ensures ∙ rolls (a .before) (a .e) _ _ (c .before .before .before .before .before .before .update .ensures) (c .before .before .before .if1 .left) (c .before .rotate .ensures)
 

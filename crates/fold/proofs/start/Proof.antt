@@ -1,9 +1,4 @@
-use mathlib.Core.Path.{_≡_, refl, sym, _∙_, ap}
 use borrow.Author.Needs.{needs}
-use Rattle.answer.specs.Answer.{accepted}
-use Rattle.state.specs.State.{holding}
-use Rattle.state.specs.declared.KeyState.{KeyState}
-use Rattle.ingest.specs.declared.Offered.{Offered}
 use Rattle.fold.proofs.start.Statement.{statement}
 use Rattle.fold.proofs.start.Tie as tie
 

@@ -1,4 +1,3 @@
-use mathlib.Core.Path.{_≡_, refl, sym, _∙_, ap}
 use borrow.Author.Needs.{needs}
 use Rattle.fold.proofs.take.Statement.{statement}
 use Rattle.fold.proofs.take.Tie as tie

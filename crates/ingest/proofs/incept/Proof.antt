@@ -1,4 +1,4 @@
-use mathlib.Core.Path.{_≡_, refl, sym, _∙_, ap}
+use mathlib.Core.Path.{_∙_, ap}
 use borrow.Author.Needs.{needs}
 use Rattle.number.specs.declared.Number.{Number}
 use Rattle.state.specs.State.{begun}
@@ -25,7 +25,7 @@ take-requires : tie.Need-take-requires
 take-requires c κs = search needs
 
 returns-2 : tie.Need-returns-2
-returns-2 c = 
+returns-2 c =
     let a = c .before .before .before .before .before .before .args in
     c .take .ensures ∙ goes _ _ _ _ _ (c .before .before .before .before .before .incept .ensures) (c .before .before .before .if1 .left) (c .before .begin .ensures ∙ ap (λ (n : Number). begun n (a .h) (a .b)) (c .before .before .from-u64 .ensures))
 

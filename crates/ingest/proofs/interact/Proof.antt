@@ -1,4 +1,4 @@
-use mathlib.Core.Path.{_≡_, refl, sym, _∙_, ap}
+use mathlib.Core.Path.{_∙_}
 use borrow.Author.Needs.{needs}
 use Rattle.ingest.proofs.Laws.{stays, goes}
 use Rattle.ingest.proofs.interact.Statement.{statement}

@@ -1,4 +1,4 @@
-use mathlib.Core.Path.{_≡_, refl, sym, _∙_, ap}
+use mathlib.Core.Path.{_≡_}
 use borrow.Author.Needs.{needs}
 use mathlib.Core.Bool.{true, false}
 use borrow.Author.Tests.{not-true, not-false}
@@ -13,7 +13,7 @@ on-nothing-requires c κs = search needs
 
 returns : tie.Need-returns
 unfolding judgement
-returns c = 
+returns c =
     let h = c .before .before .args .before in
     let e : isHeld h ≡ false = is-held h false (not-true (h .held) (c .before .if1 .taken)) in
     rw e (c .on-nothing .ensures)
@@ -23,7 +23,7 @@ on-state-requires c κs = search needs
 
 returns-2 : tie.Need-returns-2
 unfolding judgement
-returns-2 c = 
+returns-2 c =
     let h = c .before .before .args .before in
     let e : isHeld h ≡ true = is-held h true (not-false (h .held) (c .before .if1 .left)) in
     rw e (c .on-state .ensures)

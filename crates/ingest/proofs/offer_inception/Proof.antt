@@ -1,9 +1,8 @@
-use mathlib.Core.Path.{_≡_, refl, sym, _∙_, ap}
+use mathlib.Core.Path.{_∙_, ap}
 use borrow.Author.Needs.{needs}
 use Rattle.answer.specs.declared.Answer.{Answer}
-use Rattle.state.specs.State.{holding, seeded, rotated, stepped}
-use Rattle.event.specs.declared.Ilk.the-variants.{Inception, Rotation, Interaction}
-use Rattle.ingest.specs.Judgement.{settled, nextAs}
+use Rattle.state.specs.State.{holding, seeded}
+use Rattle.ingest.specs.Judgement.{settled}
 use Rattle.ingest.proofs.Laws.{incept-lists}
 use Rattle.ingest.proofs.offer_inception.Statement.{statement}
 use Rattle.ingest.proofs.offer_inception.Tie as tie
@@ -15,7 +14,7 @@ incept-requires : tie.Need-incept-requires
 incept-requires c κs = search needs
 
 returns : tie.Need-returns
-returns c = 
+returns c =
     let a = c .before .before .before .before .before .before .args in
     c .incept .ensures ∙ ap (λ (x : Answer). settled (a .before) x (holding (seeded (a .e .head) (a .e .body)))) (incept-lists (a .e) _ (c .before .gather .ensures))
 

@@ -1,8 +1,8 @@
-use mathlib.Core.Path.{_≡_, refl, sym, _∙_, ap}
+use mathlib.Core.Path.{_∙_, ap}
 use borrow.Author.Needs.{needs}
 use Rattle.answer.specs.declared.Answer.{Answer}
-use Rattle.state.specs.State.{holding, seeded, rotated, stepped}
-use Rattle.event.specs.declared.Ilk.the-variants.{Inception, Rotation, Interaction}
+use Rattle.state.specs.State.{holding}
+use Rattle.event.specs.declared.Ilk.the-variants.{Interaction}
 use Rattle.ingest.specs.Judgement.{settled, nextAs}
 use Rattle.ingest.proofs.Laws.{interact-lists}
 use Rattle.ingest.proofs.offer_interaction.Statement.{statement}
@@ -15,7 +15,7 @@ interact-requires : tie.Need-interact-requires
 interact-requires c κs = search needs
 
 returns : tie.Need-returns
-returns c = 
+returns c =
     let a = c .before .before .before .before .before .before .args in
     c .interact .ensures ∙ ap (λ (x : Answer). settled (a .before) x (holding (nextAs Interaction (a .before .state) (a .e)))) (interact-lists (a .before .state) (a .e) _ (c .before .gather .ensures))
 

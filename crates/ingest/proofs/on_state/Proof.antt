@@ -1,4 +1,4 @@
-use mathlib.Core.Path.{_≡_, refl, sym, _∙_, ap}
+use mathlib.Core.Path.{_≡_}
 use borrow.Author.Needs.{needs}
 use mathlib.Core.Bool.{true, false}
 use borrow.Author.Tests.{not-true, not-false}
@@ -13,7 +13,7 @@ refuse-requires c κs = search needs
 
 returns : tie.Need-returns
 unfolding onState
-returns c = 
+returns c =
     let s = c .before .before .before .args .before .state in
     let e : mayMove s ≡ false = may-move s false (not-true (s .transferable) (c .before .if1 .taken)) in
     rw e (c .refuse .ensures)
@@ -23,7 +23,7 @@ on-live-requires c κs = search needs
 
 returns-2 : tie.Need-returns-2
 unfolding onState
-returns-2 c = 
+returns-2 c =
     let s = c .before .before .before .args .before .state in
     let e : mayMove s ≡ true = may-move s true (not-false (s .transferable) (c .before .if1 .left)) in
     rw e (c .on-live .ensures)

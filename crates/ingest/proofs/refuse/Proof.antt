@@ -1,4 +1,3 @@
-use mathlib.Core.Path.{_≡_, refl, sym, _∙_, ap}
 use borrow.Author.Needs.{needs}
 use Rattle.ingest.proofs.refuse.Statement.{statement}
 use Rattle.ingest.proofs.refuse.Tie as tie

@@ -1,4 +1,4 @@
-use mathlib.Core.Path.{_≡_, refl, sym, _∙_, ap}
+use mathlib.Core.Path.{_∙_, ap}
 use borrow.Author.Needs.{needs}
 use Rattle.items.specs.declared.Items.{Items}
 use Rattle.member_set.specs.declared.Change.{Change}
@@ -24,7 +24,7 @@ take-requires : tie.Need-take-requires
 take-requires c κs = search needs
 
 returns-2 : tie.Need-returns-2
-returns-2 c = 
+returns-2 c =
     let a = c .before .before .before .before .before .before .before .before .args in
     c .take .ensures ∙ goes _ _ _ _ _ (ap (λ (d : Change). d .answer) (c .before .before .before .before .before .before .rotate .ensures)) (c .before .before .before .if1 .left) (c .before .rotate2 .ensures ∙ ap (λ (l : Items). rotated (a .before .state) (a .h) (a .b) l) (new-list _ _ (newWitnesses (a .before .state) (a .b)) (c .before .before .before .before .before .before .rotate .ensures) (c .before .before .before .if1 .left)))
 

@@ -1,4 +1,4 @@
-use mathlib.Core.Path.{_≡_, refl, sym, _∙_, ap}
+use mathlib.Core.Path.{_≡_, sym, _∙_, ap}
 use borrow.Author.Needs.{needs}
 use mathlib.Core.Bool.{true, false}
 use Rattle.number.specs.declared.Number.{Number}
@@ -17,13 +17,13 @@ accept-requires : tie.Need-accept-requires
 accept-requires c κs = search needs
 
 returns : tie.Need-returns
-returns c = 
+returns c =
     let sn = c .before .before .before .before .args .sn in
     let e : sameNumber sn (small 0) ≡ true = ap (λ (z : Number). sameNumber sn z) (sym (c .before .before .before .from-u64 .ensures)) ∙ (sym (c .before .before .same .ensures) ∙ c .before .if1 .taken) in
     rw e (c .accept .ensures)
 
 returns-2 : tie.Need-returns-2
-returns-2 c = 
+returns-2 c =
     let sn = c .before .before .before .args .sn in
     let e : sameNumber sn (small 0) ≡ false = ap (λ (z : Number). sameNumber sn z) (sym (c .before .before .from-u64 .ensures)) ∙ (sym (c .before .same .ensures) ∙ c .if1 .left) in
     let z : Number → Answer = λ n. record { number = 11; a = sn; b = n } in

@@ -1,6 +1,6 @@
-use mathlib.Core.Path.{_≡_, refl, sym, _∙_, ap}
+use mathlib.Core.Path.{sym, _∙_}
 use borrow.Author.Needs.{needs}
-use Rattle.evidence.specs.Evidence.{signedOn, exposedOn, receiptedOn}
+use Rattle.evidence.specs.Evidence.{signedOn, receiptedOn}
 use Rattle.answer.proofs.Laws.{here, past, last, clean-first}
 use Rattle.rules.proofs.Laws.{witnessesOf, incepts}
 use Rattle.rules.proofs.incept.Statement.{statement}
@@ -10,7 +10,7 @@ inception-start-requires : tie.Need-inception-start-requires
 inception-start-requires c κs = search needs
 
 returns : tie.Need-returns
-returns c = 
+returns c =
     let a = c .before .before .before .args in
     let signed = signedOn (a .b .authority .threshold) (a .v) in
     let receipted = receiptedOn (a .b .toad) (a .v) in
@@ -20,7 +20,7 @@ inception-keys-requires : tie.Need-inception-keys-requires
 inception-keys-requires c κs = search needs
 
 returns-2 : tie.Need-returns-2
-returns-2 c = 
+returns-2 c =
     let a = c .before .before .before .before .before .before .args in
     let signed = signedOn (a .b .authority .threshold) (a .v) in
     let receipted = receiptedOn (a .b .toad) (a .v) in
@@ -30,7 +30,7 @@ inception-witnesses-requires : tie.Need-inception-witnesses-requires
 inception-witnesses-requires c κs = search needs
 
 returns-3 : tie.Need-returns-3
-returns-3 c = 
+returns-3 c =
     let a = c .before .before .before .before .before .before .before .args in
     let signed = signedOn (a .b .authority .threshold) (a .v) in
     let receipted = receiptedOn (a .b .toad) (a .v) in

@@ -1,4 +1,4 @@
-use mathlib.Core.Path.{_≡_, refl, sym, _∙_, ap}
+use mathlib.Core.Path.{_∙_}
 use borrow.Author.Needs.{needs}
 use Rattle.items.specs.Items.{listed}
 use Rattle.member_set.specs.Members.{changeFaults, updated}
@@ -17,7 +17,7 @@ unchanged-requires c κs = search needs
 
 returns : tie.Need-returns
 unfolding rewitness
-returns c = 
+returns c =
     let a = c .before .before .before .before .before .before .args in
     let faults = changeFaults (listed (a .current)) (listed (a .b .removals)) (listed (a .b .additions)) in
     let new = updated (listed (a .current)) (listed (a .b .removals)) (listed (a .b .additions)) in
@@ -32,7 +32,7 @@ unchanged-requires-2 c κs = search needs
 
 returns-2 : tie.Need-returns-2
 unfolding rewitness
-returns-2 c = 
+returns-2 c =
     let a = c .before .before .before .before .before .before .before .before .before .before .args in
     let faults = changeFaults (listed (a .current)) (listed (a .b .removals)) (listed (a .b .additions)) in
     let new = updated (listed (a .current)) (listed (a .b .removals)) (listed (a .b .additions)) in
@@ -47,7 +47,7 @@ unchanged-requires-3 c κs = search needs
 
 returns-3 : tie.Need-returns-3
 unfolding rewitness
-returns-3 c = 
+returns-3 c =
     let a = c .before .before .before .before .before .before .before .before .before .before .before .before .before .before .args in
     let faults = changeFaults (listed (a .current)) (listed (a .b .removals)) (listed (a .b .additions)) in
     let new = updated (listed (a .current)) (listed (a .b .removals)) (listed (a .b .additions)) in
@@ -62,7 +62,7 @@ unchanged-requires-4 c κs = search needs
 
 returns-4 : tie.Need-returns-4
 unfolding rewitness
-returns-4 c = 
+returns-4 c =
     let a = c .before .before .before .before .before .before .before .before .before .before .before .before .before .before .before .before .before .args in
     let faults = changeFaults (listed (a .current)) (listed (a .b .removals)) (listed (a .b .additions)) in
     let new = updated (listed (a .current)) (listed (a .b .removals)) (listed (a .b .additions)) in
@@ -71,7 +71,7 @@ returns-4 c =
 
 returns-5 : tie.Need-returns-5
 unfolding rewitness
-returns-5 c = 
+returns-5 c =
     let a = c .before .before .before .before .before .before .before .before .before .before .before .before .before .before .before .before .args in
     let faults = changeFaults (listed (a .current)) (listed (a .b .removals)) (listed (a .b .additions)) in
     let new = updated (listed (a .current)) (listed (a .b .removals)) (listed (a .b .additions)) in

@@ -1,4 +1,4 @@
-use mathlib.Core.Path.{_≡_, refl, sym, _∙_, ap}
+use mathlib.Core.Path.{refl, sym, _∙_, ap}
 use borrow.Author.Needs.{needs}
 use Rattle.items.specs.Items.{listed}
 use Rattle.answer.specs.declared.Answer.{Answer}
@@ -16,7 +16,7 @@ unchanged-requires : tie.Need-unchanged-requires
 unchanged-requires c κs = search needs
 
 returns : tie.Need-returns
-returns c = 
+returns c =
     let a = c .before .before .before .before .before .before .before .args in
     let signed = signedOn (a .b .authority .threshold) (a .v) in
     let exposed = exposedOn (a .s .commitment .threshold) (a .v) in
@@ -30,7 +30,7 @@ unchanged-requires-2 : tie.Need-unchanged-requires-2
 unchanged-requires-2 c κs = search needs
 
 returns-2 : tie.Need-returns-2
-returns-2 c = 
+returns-2 c =
     let a = c .before .before .before .before .before .before .before .before .before .before .before .args in
     let signed = signedOn (a .b .authority .threshold) (a .v) in
     let exposed = exposedOn (a .s .commitment .threshold) (a .v) in
@@ -41,7 +41,7 @@ rewitnessed-requires : tie.Need-rewitnessed-requires
 rewitnessed-requires c κs = search needs
 
 returns-3 : tie.Need-returns-3
-returns-3 c = 
+returns-3 c =
     let a = c .before .before .before .before .before .before .before .before .before .before .before .before .before .args in
     let signed = signedOn (a .b .authority .threshold) (a .v) in
     let exposed = exposedOn (a .s .commitment .threshold) (a .v) in

@@ -1,4 +1,4 @@
-use mathlib.Core.Path.{_≡_, refl, sym, _∙_, ap}
+use mathlib.Core.Path.{sym, _∙_}
 use borrow.Author.Needs.{needs}
 use Rattle.rules.proofs.same_or_refuse.Statement.{statement}
 use Rattle.rules.proofs.same_or_refuse.Tie as tie

@@ -1,4 +1,3 @@
-use mathlib.Core.Path.{_≡_, refl, sym, _∙_, ap}
 use borrow.Author.Needs.{needs}
 use Rattle.rules.proofs.unchanged.Statement.{statement}
 use Rattle.rules.proofs.unchanged.Tie as tie

@@ -1,5 +1,3 @@
-use mathlib.Core.Path.{_≡_, refl, sym, _∙_, ap}
-use borrow.Author.Needs.{needs}
 use borrow.Author.Tests.{le-leb, lt-leb}
 use Rattle.shape.proofs.latest_shape.Statement.{statement}
 use Rattle.shape.proofs.latest_shape.Tie as tie

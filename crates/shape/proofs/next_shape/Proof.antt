@@ -1,4 +1,4 @@
-use mathlib.Core.Path.{_≡_, refl, sym, _∙_, ap}
+use mathlib.Core.Path.{sym, _∙_}
 use borrow.Author.Needs.{needs}
 use Rattle.shape.specs.Event.{nextShape}
 use Rattle.answer.proofs.Laws.{fault-here, fault-past, fault-last}

@@ -1,4 +1,4 @@
-use mathlib.Core.Path.{_≡_, refl, sym, _∙_, ap}
+use mathlib.Core.Path.{_∙_}
 use borrow.Author.Needs.{needs}
 use Rattle.shape.proofs.Laws.{shape-as}
 use Rattle.shape.proofs.of_event.Statement.{statement}

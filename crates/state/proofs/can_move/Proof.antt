@@ -1,11 +1,5 @@
-use mathlib.Core.Path.{_≡_, refl, sym, _∙_, ap}
-use mathlib.Core.List.{List, [], _∷_, _++_}
-use Prim.Native.Nat.{ℕ, _+_, _≤_, _<_, _-_}
-use native.Mathlib.Omega.{arith}
-use native.Mathlib.Numerals.{add-one}
+use mathlib.Core.Path.{sym, _∙_}
 use borrow.Author.Needs.{needs}
-use lib.ListN.{length, drop, take, getD, set}
-use borrow.Author.Tests.{eq-eqb, ne-eqb}
 use Rattle.state.proofs.can_move.Statement.{statement}
 use Rattle.state.proofs.can_move.Tie as tie
 use Rattle.state.proofs.can_move.Reads as reads
