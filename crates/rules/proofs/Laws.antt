@@ -17,7 +17,7 @@ use Rattle.items.specs.declared.Items.{Items}
 use Rattle.items.specs.Items.{packed, listed}
 use Rattle.threshold.specs.declared.Threshold.{Threshold}
 use Rattle.threshold.specs.Threshold.{wellFormed, satisfied}
-use Rattle.threshold.proofs.Laws.{form-plain}
+use Rattle.threshold.proofs.Laws.{clean-form}
 use Rattle.authority.specs.declared.Commitment.{Commitment}
 use Rattle.authority.specs.Authority.{quorum, receipts}
 use Rattle.member_set.specs.declared.Change.{Change}
@@ -36,15 +36,7 @@ clean-next c = by-test (eqb (c .next .count) 0)
   where
     by-test : (t : Bool) → Clean (pick t accepted (wellFormed (c .threshold) (c .next .count)))
     by-test true p = refl
-    by-test false p = form-plain (c .threshold) (c .next .count) (eqb-true _ 0 p)
-
-pub clean-quorum : (n : ℕ) (t : Threshold) (ps : List ℕ) → passes (refused n (length ps) 0) ≡ false → Clean (quorum n t ps)
-unfolding quorum
-clean-quorum n t ps f = by-test (satisfied t ps)
-  where
-    by-test : (b : Bool) → Clean (pick b accepted (refused n (length ps) 0))
-    by-test true p = refl
-    by-test false p = clash (sym p ∙ f)
+    by-test false p = clean-form (c .threshold) (c .next .count) p
 
 pub clean-receipts : (toad : ℕ) (ps : List ℕ) → Clean (receipts toad ps)
 unfolding receipts
