@@ -6,20 +6,19 @@ use Prim.Native.Nat.{ℕ}
 use native.Mathlib.Omega.{arith}
 use lib.Dec.{eqb, leb}
 use lib.ListN.{length}
-use borrow.Author.Tests.{eqb-true, ne-eqb, eq-eqb}
+use borrow.Author.Tests.{ne-eqb, eq-eqb}
 use Rattle.lists.specs.Lists.{pick}
 use Rattle.lists.proofs.Facts.{clash}
 use Rattle.answer.specs.declared.Answer.{Answer}
-use Rattle.answer.specs.Answer.{refused, accepted, passes, firstRefusal}
+use Rattle.answer.specs.Answer.{refused, accepted, firstRefusal}
 use Rattle.answer.proofs.Laws.{Clean, clean-first, here, past, last, grouped, tail-same, three-groups}
 use Rattle.item.specs.declared.Item.{Item}
 use Rattle.items.specs.declared.Items.{Items}
 use Rattle.items.specs.Items.{packed, listed}
-use Rattle.threshold.specs.declared.Threshold.{Threshold}
-use Rattle.threshold.specs.Threshold.{wellFormed, satisfied}
+use Rattle.threshold.specs.Threshold.{wellFormed}
 use Rattle.threshold.proofs.Laws.{clean-form}
 use Rattle.authority.specs.declared.Commitment.{Commitment}
-use Rattle.authority.specs.Authority.{quorum, receipts}
+use Rattle.authority.specs.Authority.{receipts}
 use Rattle.member_set.specs.declared.Change.{Change}
 use Rattle.member_set.specs.Members.{witnessFaults, changeOf}
 use Rattle.event.specs.declared.Head.{Head}
