@@ -6,20 +6,19 @@ use Prim.Native.Nat.{ℕ}
 use native.Mathlib.Omega.{arith}
 use lib.Dec.{eqb, leb}
 use lib.ListN.{length}
-use borrow.Author.Tests.{eqb-true, ne-eqb, eq-eqb}
+use borrow.Author.Tests.{ne-eqb, eq-eqb}
 use Rattle.lists.specs.Lists.{pick}
 use Rattle.lists.proofs.Facts.{clash}
 use Rattle.answer.specs.declared.Answer.{Answer}
-use Rattle.answer.specs.Answer.{refused, accepted, passes, firstRefusal}
+use Rattle.answer.specs.Answer.{refused, accepted, firstRefusal}
 use Rattle.answer.proofs.Laws.{Clean, clean-first, here, past, last, grouped, tail-same, three-groups}
 use Rattle.item.specs.declared.Item.{Item}
 use Rattle.items.specs.declared.Items.{Items}
 use Rattle.items.specs.Items.{packed, listed}
-use Rattle.threshold.specs.declared.Threshold.{Threshold}
-use Rattle.threshold.specs.Threshold.{wellFormed, satisfied}
-use Rattle.threshold.proofs.Laws.{form-plain}
+use Rattle.threshold.specs.Threshold.{wellFormed}
+use Rattle.threshold.proofs.Laws.{clean-form}
 use Rattle.authority.specs.declared.Commitment.{Commitment}
-use Rattle.authority.specs.Authority.{quorum, receipts}
+use Rattle.authority.specs.Authority.{receipts}
 use Rattle.member_set.specs.declared.Change.{Change}
 use Rattle.member_set.specs.Members.{witnessFaults, changeOf}
 use Rattle.event.specs.declared.Head.{Head}
@@ -36,15 +35,7 @@ clean-next c = by-test (eqb (c .next .count) 0)
   where
     by-test : (t : Bool) → Clean (pick t accepted (wellFormed (c .threshold) (c .next .count)))
     by-test true p = refl
-    by-test false p = form-plain (c .threshold) (c .next .count) (eqb-true _ 0 p)
-
-pub clean-quorum : (n : ℕ) (t : Threshold) (ps : List ℕ) → passes (refused n (length ps) 0) ≡ false → Clean (quorum n t ps)
-unfolding quorum
-clean-quorum n t ps f = by-test (satisfied t ps)
-  where
-    by-test : (b : Bool) → Clean (pick b accepted (refused n (length ps) 0))
-    by-test true p = refl
-    by-test false p = clash (sym p ∙ f)
+    by-test false p = clean-form (c .threshold) (c .next .count) p
 
 pub clean-receipts : (toad : ℕ) (ps : List ℕ) → Clean (receipts toad ps)
 unfolding receipts

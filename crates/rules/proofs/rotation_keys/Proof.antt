@@ -1,7 +1,7 @@
 use mathlib.Core.Path.{refl, sym, _∙_}
 use borrow.Author.Needs.{needs}
 use Rattle.answer.proofs.Laws.{here, past, last}
-use Rattle.rules.proofs.Laws.{clean-quorum}
+use Rattle.authority.proofs.Laws.{clean-quorum}
 use Rattle.rules.proofs.rotation_keys.Statement.{statement}
 use Rattle.rules.proofs.rotation_keys.Tie as tie
 
