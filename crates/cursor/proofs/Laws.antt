@@ -5,16 +5,16 @@
 --     span-values          scanning a list and copying it after is reading it
 use mathlib.Core.Path.{_≡_, refl, sym, ap, _∙_}
 use mathlib.Core.Bool.{Bool, true, false}
-use mathlib.Core.List.{List, [], _∷_, _++_, append-assoc, append-nil}
+use mathlib.Core.List.{List, [], _∷_, _++_, append-nil}
 use Prim.Native.Nat.{ℕ, zero, suc, _+_, _*_, _^_, _-_, _≤_, _<_}
 use native.Mathlib.Nat.{pow-le-pow-right, pow-suc, zero-mul, suc-mul, add-zero, add-assoc, add-comm, add-sub-cancel-left, le-refl, le-of-eq}
 use native.Mathlib.Numerals.{add-one}
 use native.Mathlib.Omega.{arith}
 use lib.Dec.{lit<, leb, ltb}
-use lib.ListN.{length, take, drop, getD, set, replicate, length-take, length-drop, length-append, drop-of-length-le}
-use lib.Seq.{take-suc, take-take, getD-drop, set-at}
+use lib.ListN.{length, take, drop, getD, set, replicate, length-take, length-drop, drop-of-length-le}
+use lib.Seq.{take-suc, take-take, getD-drop}
 use borrow.Author.Tests.{le-leb, lt-leb, lt-ltb, le-ltb, leb-true, ltb-true}
-use Rattle.lists.specs.Lists.{pick, both, padded}
+use Rattle.lists.specs.Lists.{pick, padded}
 use Rattle.lists.proofs.Padding.{padded-push}
 use Rattle.format.specs.Parse.{Parse, got, bad, bind, byteAt, beFrom, numAt, manyAt, listAt}
 use Rattle.cursor.specs.Cursor.{rawOf}
