@@ -3,7 +3,7 @@
 --     here, past           the same for a function that returns at the first check that refuses: its result is the whole answer
 --     clean                an answer that passes is `accepted`, with no details; the checks in order are
 --     fault-               the shape of fields likewise
-use mathlib.Core.Path.{_≡_, refl, sym, _∙_}
+use mathlib.Core.Path.{_≡_, refl, sym, _∙_, ap}
 use mathlib.Core.List.{List, [], _∷_, _++_}
 use mathlib.Core.Bool.{Bool, true, false}
 use Prim.Native.Nat.{ℕ}
@@ -39,6 +39,12 @@ grouped (x ∷ xs) ys = by-test (passes x) refl (grouped xs ys)
         → firstRefusal (pick t (firstRefusal xs) x ∷ ys) ≡ pick t (firstRefusal (xs ++ ys)) x
     by-test true e ih = ih
     by-test false e ih = rw e
+
+-- what comes behind may be answered in another way
+pub tail-same : (xs ys zs : List Answer) → firstRefusal ys ≡ firstRefusal zs → firstRefusal (xs ++ ys) ≡ firstRefusal (xs ++ zs)
+unfolding firstRefusal
+tail-same [] ys zs e = e
+tail-same (x ∷ xs) ys zs e = ap (λ (r : Answer). pick (passes x) r x) (tail-same xs ys zs e)
 
 -- ---- answers that pass without details
 abbrev pub Clean : Answer → Type 0
@@ -87,3 +93,9 @@ fault-last n m e = by-test (eqb m 0) refl
     by-test : (t : Bool) → eqb m 0 ≡ t → n ≡ pick t 0 m
     by-test true p = e ∙ eqb-true m 0 p
     by-test false p = e
+
+-- three groups of checks in a row are all their checks in a row
+pub three-groups : (xs ys zs : List Answer) → firstRefusal (firstRefusal xs ∷ firstRefusal ys ∷ firstRefusal zs ∷ []) ≡ firstRefusal (xs ++ (ys ++ zs))
+three-groups xs ys zs =
+    grouped xs (firstRefusal ys ∷ firstRefusal zs ∷ [])
+    ∙ tail-same xs (firstRefusal ys ∷ firstRefusal zs ∷ []) (ys ++ zs) (grouped ys (firstRefusal zs ∷ []) ∙ tail-same ys (firstRefusal zs ∷ []) zs (sym (last (firstRefusal zs) (firstRefusal zs) (clean-first zs) refl)))

@@ -123,15 +123,15 @@ sigerAt s = do
   verified ← flagAt s
   matches ← flagAt s
   got (
-    record {
-      code = code;
-      index = record { 0 = index };
-      dual = dual;
-      ondex = record { 0 = ondex };
-      raw = raw;
-      verified = verified;
-      matches = matches;
-    })
+      record {
+        code = code;
+        index = record { 0 = index };
+        dual = dual;
+        ondex = record { 0 = ondex };
+        raw = raw;
+        verified = verified;
+        matches = matches;
+      })
 
 -- at most 48
 unfoldable pub sigersAt : List ℕ → ℕ → Parse Sigers

@@ -42,7 +42,7 @@ first-passes x xs e = by-test (passes x) refl e
 
 -- ---- an accepted event, by its ilk: the fold takes it too, and makes the same state of it
 -- of an inception: its number is 0
-at-zero : (h : Head) → passes (genesisSn h) ≡ true → h .sn ≡ small 0
+at-zero : (h : Head) → passes (genesisSn (h .sn)) ≡ true → h .sn ≡ small 0
 at-zero h p = by-test (sameNumber (h .sn) (small 0)) refl p
   where
     by-test : (t : Bool) → sameNumber (h .sn) (small 0) ≡ t → passes (pick t accepted (record { number = 11; a = h .sn; b = small 0 })) ≡ true → h .sn ≡ small 0

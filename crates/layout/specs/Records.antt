@@ -87,14 +87,14 @@ inceptionBodyAt s = do
   toad ← numAt 4 s
   config ← configAt s
   got (
-    record {
-      authority = authority;
-      commitment = commitment;
-      additions = witnesses;
-      removals = packed [];
-      toad = toad;
-      config = config;
-    })
+      record {
+        authority = authority;
+        commitment = commitment;
+        additions = witnesses;
+        removals = packed [];
+        toad = toad;
+        config = config;
+      })
 
 unfoldable pub inceptionAt : List ℕ → ℕ → Parse Event
 inceptionAt s = do
@@ -111,14 +111,14 @@ rotationBodyAt s = do
   removals ← itemsAt Key s
   toad ← numAt 4 s
   got (
-    record {
-      authority = authority;
-      commitment = commitment;
-      additions = additions;
-      removals = removals;
-      toad = toad;
-      config = packedTraits [];
-    })
+      record {
+        authority = authority;
+        commitment = commitment;
+        additions = additions;
+        removals = removals;
+        toad = toad;
+        config = packedTraits [];
+      })
 
 unfoldable pub rotationAt : List ℕ → ℕ → Parse Event
 rotationAt s = do
@@ -157,18 +157,18 @@ snapshotAt s = do
   sn ← snAt s
   said ← itemAt Said s
   ended s (
-    record {
-      prefix = h .prefix;
-      sn = h .sn;
-      said = h .said;
-      latest = latest;
-      authority = authority;
-      commitment = commitment;
-      witnessing = record { witnesses = witnesses; toad = toad };
-      config = config;
-      transferable = transferable;
-      last = record { sn = sn; said = said };
-    })
+      record {
+        prefix = h .prefix;
+        sn = h .sn;
+        said = h .said;
+        latest = latest;
+        authority = authority;
+        commitment = commitment;
+        witnessing = record { witnesses = witnesses; toad = toad };
+        config = config;
+        transferable = transferable;
+        last = record { sn = sn; said = said };
+      })
 
 -- ---- A record: "a two-byte ASCII mark, a u16 body length, the body"
 -- an event, a snapshot, or the refusal (2, 3 or 4)

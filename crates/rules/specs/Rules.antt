@@ -17,6 +17,7 @@ use Rattle.item.specs.declared.Item.{Item}
 use Rattle.item.specs.Item.{sameItem, isTransferable}
 use Rattle.items.specs.declared.Items.{Items}
 use Rattle.items.specs.Items.{listed, packed}
+use Rattle.config.specs.declared.Config.{Config}
 use Rattle.config.specs.Config.{establishmentOnly}
 use Rattle.threshold.specs.Threshold.{wellFormed}
 use Rattle.toad.specs.Toad.{witnessThreshold}
@@ -56,8 +57,8 @@ nextForm c = pick (eqb (c .next .count) 0) accepted (wellFormed (c .threshold) (
 
 -- ---- "IC then: 11; for a basic prefix 12, 13, 14, and with code B also 15, 16, 17; witnesses 18, then 19; own threshold;
 -- signatures 27; next threshold if next is not empty; 29; 30 or 31; 32." 11's detail: sn.
-abbrev pub genesisSn : Head → Answer
-genesisSn h = refuseUnless (sameNumber (h .sn) (small 0)) (record { number = 11; a = h .sn; b = small 0 })
+abbrev pub genesisSn : Number → Answer
+genesisSn sn = refuseUnless (sameNumber sn (small 0)) (record { number = 11; a = sn; b = small 0 })
 
 abbrev pub identityOf : Head → Body → ℕ → Answer
 identityOf h b anchors =
@@ -73,7 +74,7 @@ toadFits b witnesses = witnessThreshold (b .toad) witnesses
 unfoldable pub inception : Head → Body → ℕ → Answer → (ℕ → Answer) → Answer
 inception h b anchors signed receipted =
     firstRefusal (
-    genesisSn h
+    genesisSn (h .sn)
     ∷ identityOf h b anchors
     ∷ witnessFaults 1 (listed (b .additions))
     ∷ ownForm (b .authority)
@@ -112,10 +113,13 @@ rotation s h b signed exposed receipted =
     firstRefusal (chains s h ∷ ownForm (b .authority) ∷ nextForm (b .commitment) ∷ signed ∷ exposed ∷ rewitness (listed (s .witnessing .witnesses)) b receipted ∷ [])
 
 -- ---- "IX: 37; 33, 34, 35, 36; 27 with the state's keys; 32 with the state's witnesses"
+abbrev pub mayInteract : Config → Answer
+mayInteract c = refuseIf (establishmentOnly c) (refused 37 0 0)
+
 unfoldable pub interaction : KeyState → Head → Answer → (ℕ → Answer) → Answer
 interaction s h signed receipted =
     firstRefusal (
-    refuseIf (establishmentOnly (s .config)) (refused 37 0 0)
+    mayInteract (s .config)
     ∷ chains s h
     ∷ signed
     ∷ receipted (s .witnessing .witnesses .count)

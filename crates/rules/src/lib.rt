@@ -3,15 +3,17 @@
 ghost use mathlib.Core.Path.{_≡_};
 ghost use mathlib.Core.List.{[], _∷_};
 ghost use Rattle.number.specs.Number.{nextOf};
-ghost use Rattle.answer.specs.Answer.{firstRefusal};
+ghost use Rattle.answer.specs.Answer.{refused, refuseUnless, firstRefusal};
+ghost use Rattle.item.specs.Item.{sameItem};
 ghost use Rattle.items.specs.Items.{listed, packed};
 ghost use Rattle.member_set.specs.Members.{witnessFaults, updated};
 ghost use Rattle.evidence.specs.Evidence.{signedOn, exposedOn, receiptedOn};
 ghost use Rattle.rules.specs.Rules.{follows, chainsOnto, genesisSn, identityOf, ownForm, nextForm, mayCommit, toadFits};
-ghost use Rattle.rules.specs.Rules.{inception, rewitness, newWitnesses, changed, rotation, interaction};
+ghost use Rattle.rules.specs.Rules.{inception, rewitness, newWitnesses, changed, rotation, mayInteract, interaction};
 use answer::Answer;
 use authority::Authority;
 use authority::Commitment;
+use config::Config;
 use event::Body;
 use event::Head;
 use evidence::Evidence;
@@ -39,23 +41,30 @@ fn follow(sn: Number, actual: Number) -> Answer
     }
 }
 
+fn same_or_refuse(a: Item, b: Item, which: u8) -> Answer
+    ensures { λ r. ⌜ r ≡ refuseUnless (sameItem a b) (refused which 0 0) ⌝ }
+{
+    if item::same(a, b) {
+        return answer::accept();
+    }
+    answer::refuse(which, 0, 0)
+}
+
 fn chain(prefix: Item, sn: Number, said: Item, h: Head) -> Answer
     ensures { λ r. ⌜ r ≡ chainsOnto prefix sn said h ⌝ }
 {
     let own = h.prefix;
-    if !item::same(prefix, own) {
-        return answer::refuse(33, 0, 0);
-    }
-    let actual = h.sn;
-    let x = follow(sn, actual);
+    let x = same_or_refuse(prefix, own, 33);
     if x.number != 0 {
         return x;
     }
-    let prior = h.prior;
-    if !item::same(said, prior) {
-        return answer::refuse(36, 0, 0);
+    let actual = h.sn;
+    let y = follow(sn, actual);
+    if y.number != 0 {
+        return y;
     }
-    answer::accept()
+    let prior = h.prior;
+    same_or_refuse(said, prior, 36)
 }
 
 fn own_form(a: Authority) -> Answer
@@ -90,22 +99,32 @@ fn identity(h: Head, b: Body, anchors: u32) -> Answer
     inception::check_identity(prefix, keys, t, next.count, witnesses.count, anchors)
 }
 
+fn genesis_sn(sn: Number) -> Answer
+    ensures { λ r. ⌜ r ≡ genesisSn sn ⌝ }
+{
+    let zero = number::from_u64(0);
+    if number::same(sn, zero) {
+        return answer::accept();
+    }
+    Answer {
+        number: 11,
+        a: sn,
+        b: zero,
+    }
+}
+
 // 11; 12 to 17; 18, 19.
 fn inception_start(h: Head, b: Body, anchors: u32) -> Answer
-    ensures { λ r. ⌜ r ≡ firstRefusal (genesisSn h ∷ identityOf h b anchors ∷ witnessFaults 1 (listed (b .additions)) ∷ []) ⌝ }
+    ensures { λ r. ⌜ r ≡ firstRefusal (genesisSn (h .sn) ∷ identityOf h b anchors ∷ witnessFaults 1 (listed (b .additions)) ∷ []) ⌝ }
 {
     let sn = h.sn;
-    let zero = number::from_u64(0);
-    if !number::same(sn, zero) {
-        return Answer {
-            number: 11,
-            a: sn,
-            b: zero,
-        };
-    }
-    let x = identity(h, b, anchors);
+    let x = genesis_sn(sn);
     if x.number != 0 {
         return x;
+    }
+    let y = identity(h, b, anchors);
+    if y.number != 0 {
+        return y;
     }
     let witnesses = b.additions;
     member_set::check_witnesses(witnesses, 1)
@@ -197,7 +216,7 @@ fn rewitnessed(current: Items, b: Body, v: Evidence) -> Change
     let change = member_set::update(current, cuts, adds);
     let made = change.answer;
     if made.number != 0 {
-        return change;
+        return unchanged(made);
     }
     let list = change.list;
     let y = toad::check_witness_threshold(b.toad, list.count);
@@ -208,7 +227,10 @@ fn rewitnessed(current: Items, b: Body, v: Evidence) -> Change
     if z.number != 0 {
         return unchanged(z);
     }
-    change
+    Change {
+        answer: z,
+        list: list,
+    }
 }
 
 // The own threshold; the next threshold; 27; 28 against what the state committed to.
@@ -254,25 +276,35 @@ pub fn rotate(s: KeyState, h: Head, b: Body, v: Evidence) -> Change
     rewitnessed(current, b, v)
 }
 
+fn only_establishment(config: Config) -> Answer
+    ensures { λ r. ⌜ r ≡ mayInteract config ⌝ }
+{
+    if config::is_establishment_only(config) {
+        return answer::refuse(37, 0, 0);
+    }
+    answer::accept()
+}
+
 pub fn interact(s: KeyState, h: Head, v: Evidence) -> Answer
     ensures { λ r. ⌜ r ≡ interaction s h (signedOn (s .authority .threshold) v) (receiptedOn (s .witnessing .toad) v) ⌝ }
 {
     let config = s.config;
-    if config::is_establishment_only(config) {
-        return answer::refuse(37, 0, 0);
+    let x = only_establishment(config);
+    if x.number != 0 {
+        return x;
     }
     let prefix = s.prefix;
     let sn = s.sn;
     let said = s.said;
-    let x = chain(prefix, sn, said, h);
-    if x.number != 0 {
-        return x;
+    let y = chain(prefix, sn, said, h);
+    if y.number != 0 {
+        return y;
     }
     let own = s.authority;
     let t = own.threshold;
-    let y = evidence::signed(t, v);
-    if y.number != 0 {
-        return y;
+    let z = evidence::signed(t, v);
+    if z.number != 0 {
+        return z;
     }
     let witnessing = s.witnessing;
     let witnesses = witnessing.witnesses;
