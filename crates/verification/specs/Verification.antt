@@ -97,6 +97,9 @@ claimed s =
       matches = s .matches;
     }
 
+abbrev pub claimOf : Siger → Claim
+claimOf s = record { index = s .index; dual = s .dual; ondex = s .ondex; verified = s .verified; matches = s .matches }
+
 -- ---- Shape. "ondex u32 (0 when the flag is 0)"; at most 48; unused places zero.
 abbrev pub noSiger : Siger
 noSiger =
