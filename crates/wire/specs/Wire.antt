@@ -7,9 +7,8 @@ use lib.ListN.{length, getD}
 use Rattle.lists.specs.Lists.{pick, both, either}
 use Rattle.format.specs.Parse.{Parse, got, bad, numAt}
 use Rattle.cursor.specs.Cursor.{rawOf}
-use Rattle.cursor.specs.Spans.{spanAt, listOf}
+use Rattle.cursor.specs.Spans.{spanAt, manyOf}
 use Rattle.verification.specs.declared.Siger.{Siger}
-use Rattle.verification.specs.Verification.{noSiger}
 use Rattle.wire.specs.declared.Span as S
 
 -- the u32 at a place, 0 where the bytes run out
@@ -21,9 +20,9 @@ abbrev pub wordOf : List ℕ → ℕ → ℕ
 wordOf s at = valued (numAt 4 s at)
 
 -- "code (any byte, only compared), index u32, ondex flag 0 or 1, ondex u32 (0 when the flag is 0), 64 raw bytes, signature
--- verdict, digest verdict": 76 bytes from a place on, each taken as it stands
-abbrev pub partsOf : List ℕ → ℕ → Siger
-partsOf s at =
+-- verdict, digest verdict": the signature at a place, each part as it stands
+unfoldable pub sigerOf : List ℕ → ℕ → Siger
+sigerOf s at =
     record {
       code = getD s at 0;
       index = record { 0 = wordOf s (at + 1) };
@@ -34,13 +33,9 @@ partsOf s at =
       matches = eqb (getD s (at + 75) 0) 1;
     }
 
--- the signature at a place; none where it is not whole
-unfoldable pub sigerOf : List ℕ → ℕ → Siger
-sigerOf s at = pick (leb (at + 76) (length s)) (partsOf s at) noSiger
-
--- n of them, one after another
+-- n of them, one after another; none where they are more than 48 or the bytes run out
 abbrev pub sigersOf : List ℕ → ℕ → ℕ → List Siger
-sigersOf s n at = listOf (sigerOf s) 76 n at
+sigersOf s n at = manyOf (sigerOf s) 76 48 s n at
 
 -- whole and of its classes: the flag and both verdicts 0 or 1, the ondex 0 where the flag is
 unfoldable pub shapedAt : List ℕ → ℕ → Bool

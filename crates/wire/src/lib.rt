@@ -3,8 +3,9 @@ ghost use mathlib.Core.Path.{_≡_};
 ghost use Prim.Native.Nat.{_+_, _*_, _≤_};
 ghost use lib.Dec.{eqb};
 ghost use lib.ListN.{length, take, drop};
-ghost use Rattle.lists.specs.Lists.{pick, either, any, sameNumbers};
-ghost use Rattle.verification.specs.Verification.{sameFlag, sameWire, countedWith, countedOf, claimOf};
+ghost use Rattle.lists.specs.Lists.{either, any, sameNumbers};
+ghost use Rattle.cursor.specs.Spans.{listOf};
+ghost use Rattle.verification.specs.Verification.{sameFlag, sameWire, countedOf, claimOf};
 ghost use Rattle.wire.specs.Wire.{wordOf, sigerOf, sigersOf, shapedAt, sigersSpan, spanIs};
 use cursor::Num32;
 use cursor::Num8;
@@ -130,7 +131,7 @@ fn same_at(s: &[u8], p: usize, q: usize) -> bool
 fn copied(s: &[u8], at: usize, i: usize, p: usize) -> bool
     requires { ⌜ p + 76 ≤ length (now s) ⌝ }
     requires { ⌜ at + i * 76 ≤ length (now s) ⌝ }
-    ensures { λ r. ⌜ r ≡ any (sameWire (sigerOf (now (s .entry)) p)) (sigersOf (now (s .entry)) i at) ⌝ }
+    ensures { λ r. ⌜ r ≡ any (sameWire (sigerOf (now (s .entry)) p)) (listOf (sigerOf (now (s .entry))) 76 i at) ⌝ }
 {
     let mut q = at;
     let mut j: usize = 0;
@@ -162,12 +163,13 @@ fn claim_at(s: &[u8], p: usize) -> Claim
     }
 }
 
-// The sets so far with the places of the signature at p, where it is no copy of the i from a place on.
-fn counted_at(s: &[u8], at: usize, i: usize, p: usize, c: Counted, keys: usize, next: usize) -> Counted
-    requires { ⌜ p + 76 ≤ length (now s) ⌝ }
-    requires { ⌜ at + i * 76 ≤ length (now s) ⌝ }
-    ensures { λ r. ⌜ r ≡ pick (any (sameWire (sigerOf (now (s .entry)) p)) (sigersOf (now (s .entry)) i at)) c (countedWith keys next c (sigerOf (now (s .entry)) p)) ⌝ }
+// The sets so far, of i signatures from a place on, with what the one behind them speaks for.
+fn counted_next(s: &[u8], at: usize, i: usize, c: Counted, keys: usize, next: usize) -> Counted
+    requires { ⌜ at + (i + 1) * 76 ≤ length (now s) ⌝ }
+    requires { ⌜ c ≡ countedOf keys next (listOf (sigerOf (now s)) 76 i at) ⌝ }
+    ensures { λ r. ⌜ r ≡ countedOf keys next (listOf (sigerOf (now (s .entry))) 76 (i + 1) at) ⌝ }
 {
+    let p = at + i * 76;
     if copied(s, at, i, p) {
         return c;
     }
@@ -175,7 +177,7 @@ fn counted_at(s: &[u8], at: usize, i: usize, p: usize, c: Counted, keys: usize, 
     verification::counted_claim(c, claim, keys, next)
 }
 
-// The places that n signatures from a place on speak for; what the bytes do not hold whole speaks for none.
+// The places that n signatures from a place on speak for; none where they are more than 48 or the bytes run out.
 pub fn count(s: &[u8], at: usize, n: usize, keys: usize, next: usize) -> Counted
     ensures { λ r. ⌜ r ≡ countedOf keys next (sigersOf (now (s .entry)) n at) ⌝ }
 {
@@ -184,17 +186,18 @@ pub fn count(s: &[u8], at: usize, n: usize, keys: usize, next: usize) -> Counted
         verified: 0,
         exposed: 0,
     };
-    let mut p = at;
+    if 48 < n {
+        return c;
+    }
+    if len < at {
+        return c;
+    }
+    if len - at < n * 76 {
+        return c;
+    }
     let mut i: usize = 0;
     while i < n {
-        if len < p {
-            return c;
-        }
-        if len - p < 76 {
-            return c;
-        }
-        c = counted_at(s, at, i, p, c, keys, next);
-        p += 76;
+        c = counted_next(s, at, i, c, keys, next);
         i += 1;
     }
     c
