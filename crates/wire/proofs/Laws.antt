@@ -6,28 +6,27 @@
 --     sigers-values   scanning a list and taking the signatures at its places is reading it
 use mathlib.Core.Path.{_≡_, refl, sym, ap, _∙_}
 use mathlib.Core.Bool.{Bool, true, false, not}
-use mathlib.Core.List.{List, [], _∷_, _++_}
-use Prim.Native.Nat.{ℕ, zero, suc, _+_, _*_, _-_, _≤_, _<_}
+use mathlib.Core.List.{List}
+use Prim.Native.Nat.{ℕ, suc, _+_, _*_, _-_, _≤_, _<_}
 use native.Mathlib.Omega.{arith}
 use lib.Dec.{leb, eqb, ltb}
 use lib.ListN.{length, take, drop, getD, length-take, length-drop}
 use lib.Seq.{getD-take, getD-drop}
-use borrow.Author.Tests.{le-leb, lt-leb, eq-eqb, ne-eqb, leb-true}
+use borrow.Author.Tests.{le-leb, lt-leb, eq-eqb, ne-eqb, leb-true, leb-false}
 use Rattle.lists.specs.Lists.{pick, both, either, any, sameNumbers}
 use Rattle.lists.proofs.Facts.{both-true}
 use Rattle.lists.proofs.Walks.{same-next, same-stop, same-end}
-use Rattle.format.specs.Parse.{Parse, got, bad, bind, byteAt, numAt, rawAt, listAt}
+use Rattle.format.specs.Parse.{Parse, got, bad, bind, byteAt, beFrom, numAt, rawAt}
 use Rattle.format.specs.Fields.{flagAt, ondexAt, sigerAt, sigersAt}
 use Rattle.cursor.specs.Cursor.{rawOf}
-use Rattle.cursor.specs.Spans.{mapped, spanAt, listOf, manyOf}
+use Rattle.cursor.specs.Spans.{mapped, listOf}
 use Rattle.cursor.proofs.Laws.{Agree, had, refused, num-got, byte-got, byte-short, raw-got, list-none, list-next, many-over, many-short, many-got, span-values}
 use Rattle.verification.specs.declared.Siger.{Siger}
-use Rattle.verification.specs.declared.Sigers.{Sigers}
 use Rattle.verification.specs.declared.Counted.{Counted}
 use Rattle.verification.specs.declared.Claim.{Claim}
 use Rattle.verification.specs.Verification.{sameFlag, sameWire, countedWith, exposedWith, countedOf, claimed, claimOf, packedSigers}
 use Rattle.verification.proofs.Laws.{counted-none, counted-copy, counted-more}
-use Rattle.wire.specs.Wire.{valued, wordOf, sigerOf, sigersOf, shapedAt, placeAt, sigersSpan}
+use Rattle.wire.specs.Wire.{wordOf, sigerOf, sigersOf, shapedAt, placeAt, sigersSpan}
 
 -- ---- shape
 module _ (s : List ℕ) (at : ℕ) where
@@ -231,3 +230,103 @@ module _ (s : List ℕ) where
         → bind (ondexAt d s p) k ≡ pick (either d (eqb (wordOf s p) 0)) x (bad 3)
     unfolding ondexAt
     had-ondex d k h e f = rw (word-got p h, e) (chosen (either d (eqb (wordOf s p) 0)) (wordOf s p) q k f)
+
+    had-raw : (k : List ℕ → ℕ → Parse A) → p + 64 ≤ length s → p + 64 ≡ q → k (rawOf 64 s p) q ≡ x → bind (rawAt 64 s p) k ≡ x
+    unfolding rawAt
+    had-raw k h e f = rw (le-leb (p + 64) (length s) h, ← raw-got 64 s p h, e) f
+
+  siger-had : (at : ℕ) → at + 76 ≤ length s
+      → sigerAt s at
+      ≡ pick (leb (getD s (at + 5) 0) 1)
+      (pick (either (eqb (getD s (at + 5) 0) 1) (eqb (wordOf s (at + 6)) 0))
+      (pick (leb (getD s (at + 74) 0) 1) (pick (leb (getD s (at + 75) 0) 1) (got (sigerOf s at) (at + 76)) (bad 3)) (bad 3))
+      (bad 3))
+      (bad 3)
+  unfolding sigerAt sigerOf
+  siger-had at h =
+      had-byte at (at + 1) _ (omega arith) refl
+      (had-word (at + 1) (at + 5) _ (omega arith) (omega arith)
+      (had-flag (at + 5) (at + 6) _ (omega arith) (omega arith)
+      (had-ondex (at + 6) (at + 10) (eqb (getD s (at + 5) 0) 1) _ (omega arith) (omega arith)
+      (had-raw (at + 10) (at + 74) _ (omega arith) (omega arith)
+      (had-flag (at + 74) (at + 75) _ (omega arith) (omega arith) (had-flag (at + 75) (at + 76) _ (omega arith) (omega arith) refl))))))
+
+  -- ---- or refused with 3, each field that is not had, and the last one where the bytes run out
+  maybe : {A B : Type 0} (b : Bool) (a : A) (n : ℕ) (k : A → ℕ → Parse B) → k a n ≡ bad 3 → bind (pick b (got a n) (bad 3)) k ≡ bad 3
+  maybe true a n k e = e
+  maybe false a n k e = refl
+
+  after : {A B C : Type 0} (x : Parse A) (f : A → ℕ → Parse B) (k : B → ℕ → Parse C) → bind (bind x f) k ≡ bind x (λ a n. bind (f a n) k)
+  after (got a n) f k = refl
+  after (bad r) f k = refl
+
+  module _ {A : Type 0} (p : ℕ) where
+    short-byte : (k : ℕ → ℕ → Parse A) → ((v : ℕ) → k v (p + 1) ≡ bad 3) → bind (byteAt s p) k ≡ bad 3
+    unfolding byteAt
+    short-byte k h = maybe (ltb p (length s)) (getD s p 0) (p + 1) k (h (getD s p 0))
+
+    short-num : (w : ℕ) (k : ℕ → ℕ → Parse A) → ((v : ℕ) → k v (p + w) ≡ bad 3) → bind (numAt w s p) k ≡ bad 3
+    unfolding numAt
+    short-num w k h = maybe (leb (p + w) (length s)) (beFrom 0 (take w (drop p s))) (p + w) k (h (beFrom 0 (take w (drop p s))))
+
+    short-raw : (w : ℕ) (k : List ℕ → ℕ → Parse A) → ((v : List ℕ) → k v (p + w) ≡ bad 3) → bind (rawAt w s p) k ≡ bad 3
+    unfolding rawAt
+    short-raw w k h = maybe (leb (p + w) (length s)) (take w (drop p s)) (p + w) k (h (take w (drop p s)))
+
+    short-flag : (k : Bool → ℕ → Parse A) → ((v : Bool) → k v (p + 1) ≡ bad 3) → bind (flagAt s p) k ≡ bad 3
+    unfolding flagAt
+    short-flag k h = after (byteAt s p) _ k ∙ short-byte _ λ v. maybe (leb v 1) (eqb v 1) (p + 1) k (h (eqb v 1))
+
+    short-ondex : (d : Bool) (k : ℕ → ℕ → Parse A) → ((v : ℕ) → k v (p + 4) ≡ bad 3) → bind (ondexAt d s p) k ≡ bad 3
+    unfolding ondexAt
+    short-ondex d k h = after (numAt 4 s p) _ k ∙ short-num 4 _ λ v. maybe (either d (eqb v 0)) v (p + 4) k (h v)
+
+    short-last : (k : Bool → ℕ → Parse A) → length s ≤ p → bind (flagAt s p) k ≡ bad 3
+    unfolding flagAt
+    short-last k h = rw (byte-short s p h)
+
+  siger-short : (at : ℕ) → length s < at + 76 → sigerAt s at ≡ bad 3
+  unfolding sigerAt
+  siger-short at h =
+      short-byte at _ λ code.
+      short-num (at + 1) 4 _ λ index.
+      short-flag (at + 1 + 4) _ λ dual.
+      short-ondex (at + 1 + 4 + 1) dual _ λ ondex.
+      short-raw (at + 1 + 4 + 1 + 4) 64 _ λ raw.
+      short-flag (at + 1 + 4 + 1 + 4 + 64) _ λ verified.
+      short-last (at + 1 + 4 + 1 + 4 + 64 + 1) _ (omega arith)
+
+  -- a signature by its place is one by its value
+  pub siger-values : (at : ℕ) → Agree 76 (length s) at (placeAt s at) (sigerAt s at) (sigerOf s at)
+  unfolding placeAt shapedAt
+  siger-values at = by-room (leb (at + 76) (length s)) refl
+    where
+      tests : at + 76 ≤ length s → (a b c d : Bool)
+          → Agree 76 (length s) at (pick (both a (both b (both c d))) (got at (at + 76)) (bad 3))
+          (pick a (pick b (pick c (pick d (got (sigerOf s at) (at + 76)) (bad 3)) (bad 3)) (bad 3)) (bad 3))
+          (sigerOf s at)
+      tests h true true true true = had h refl refl
+      tests h true true true false = refused 3 refl refl
+      tests h true true false d = refused 3 refl refl
+      tests h true false c d = refused 3 refl refl
+      tests h false b c d = refused 3 refl refl
+
+      by-room : (b : Bool) → leb (at + 76) (length s) ≡ b → Agree 76 (length s) at (placeAt s at) (sigerAt s at) (sigerOf s at)
+      by-room true e =
+          let h = leb-true (at + 76) (length s) e in
+          rw (siger-had at h, e)
+          (tests h (leb (getD s (at + 5) 0) 1) (either (eqb (getD s (at + 5) 0) 1) (eqb (wordOf s (at + 6)) 0)) (leb (getD s (at + 74) 0) 1) (leb (getD s (at + 75) 0) 1))
+      by-room false e =
+          let h = leb-false (at + 76) (length s) e in
+          refused 3 (place-bad s at (shaped-short s at h)) (siger-short at h)
+
+  packs : {A B : Type 0} (f : A → B) (x : Parse (ℕ × ℕ)) (v : ℕ × ℕ → A) → mapped (λ (m : ℕ × ℕ). f (v m)) x ≡ bind (mapped v x) (λ a q. got (f a) q)
+  packs f (got m q) v = refl
+  packs f (bad r) v = refl
+
+  -- the signatures at the places that a scan gave are those of the record
+  pub sigers-values : (at : ℕ) → mapped (λ (m : ℕ × ℕ). packedSigers (sigersOf s (m .0) (m .1))) (sigersSpan s at) ≡ sigersAt s at
+  unfolding sigersAt
+  sigers-values at =
+      packs packedSigers (sigersSpan s at) (λ (m : ℕ × ℕ). sigersOf s (m .0) (m .1))
+      ∙ ap (λ (x : Parse (List Siger)). bind x (λ xs q. got (packedSigers xs) q)) (span-values (placeAt s) (sigerAt s) (sigerOf s) 76 48 s siger-values at)
