@@ -20,7 +20,7 @@ use Rattle.format.specs.Fields.{simple, weighted, sizesAt, total, weightAt, cla
 use Rattle.cursor.specs.Spans.{mapped, listOf, manyOf}
 use Rattle.cursor.proofs.Laws.{num-got, num-short, list-none, list-length, many-over, many-short, many-got, as-is}
 use Rattle.threshold_field.specs.declared.Marks.{Marks}
-use Rattle.threshold_field.specs.ThresholdField.{totalAt, passAt, simpleMarks, weightedMarks, weightedAt, marksAs, marksAt, byteOf, weightOf, noWeight, sizesOf, weightsOf, thresholdOf}
+use Rattle.threshold_field.specs.ThresholdField.{totalAt, passAt, weightedMarks, weightedAt, marksAs, marksAt, byteOf, weightOf, sizesOf, weightsOf, thresholdOf}
 
 -- ---- sizes as a loop adds them: i of n are read and come to t, and the next stands at p
 module _ (s : List ℕ) (n i t p : ℕ) (x : Parse ℕ) (e : x ≡ totalAt s (n - i) t p) where

@@ -4,8 +4,8 @@ ghost use Prim.Native.Nat.{_+_, _≤_};
 ghost use lib.ListN.{length};
 ghost use Rattle.threshold_field.specs.ThresholdField.{markedIs, totalIs, small, totalAt, weightedAt, marksAs, marksAt};
 ghost use Rattle.threshold_field.specs.ThresholdField.{weightOf, sizesOf, weightsOf, thresholdOf};
-use cursor::Num64;
 use cursor::Num8;
+use cursor::Num64;
 use threshold::Threshold;
 use weight::Weight;
 
