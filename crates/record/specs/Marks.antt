@@ -141,13 +141,13 @@ inceptionBodyPlaces s = do
   toad ← numAt 4 s
   config ← configPlaceAt s
   got (
-    record {
-      signers = signers;
-      additions = listing witnesses;
-      removals = listing (0, 0);
-      toad = toad;
-      config = listing config;
-    })
+      record {
+        signers = signers;
+        additions = listing witnesses;
+        removals = listing (0, 0);
+        toad = toad;
+        config = listing config;
+      })
 
 unfoldable pub rotationBodyPlaces : List ℕ → ℕ → Parse BodyMarks
 rotationBodyPlaces s = do
@@ -156,13 +156,13 @@ rotationBodyPlaces s = do
   removals ← itemsPlaceAt Key s
   toad ← numAt 4 s
   got (
-    record {
-      signers = signers;
-      additions = listing additions;
-      removals = listing removals;
-      toad = toad;
-      config = listing (0, 0);
-    })
+      record {
+        signers = signers;
+        additions = listing additions;
+        removals = listing removals;
+        toad = toad;
+        config = listing (0, 0);
+      })
 
 unfoldable pub tailPlaces : List ℕ → ℕ → Parse TailMarks
 tailPlaces s = do

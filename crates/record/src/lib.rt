@@ -9,8 +9,8 @@ ghost use Rattle.record.specs.Marks.{headOf, authorityOf, commitmentOf, 
 use authority::Authority;
 use authority::Commitment;
 use authority::Witnessing;
-use cursor::Num32;
 use cursor::Num8;
+use cursor::Num32;
 use event::Body;
 use event::Head;
 use field::Flag;
@@ -200,7 +200,15 @@ fn scan_first_head(s: &[u8], at: usize) -> HeadScan
         return HeadScan::Bad;
     };
     let prior = s.len();
-    HeadScan::Of(HeadMarks { prefix, sn, said, prior }, next)
+    HeadScan::Of(
+        HeadMarks {
+            prefix,
+            sn,
+            said,
+            prior,
+        },
+        next,
+    )
 }
 
 // "prefix, sn, said, prior"
@@ -253,7 +261,13 @@ fn scan_signers(s: &[u8], at: usize) -> SignersScan
     let QuorumScan::Of(commitment, next) = coming else {
         return SignersScan::No(refusal_of_quorum(coming));
     };
-    SignersScan::Of(SignersMarks { authority, commitment }, next)
+    SignersScan::Of(
+        SignersMarks {
+            authority,
+            commitment,
+        },
+        next,
+    )
 }
 
 // "keys, threshold, next, next threshold, witnesses, toad u32, config"
@@ -356,7 +370,14 @@ fn scan_tail(s: &[u8], at: usize) -> TailScan
         first: sig_first,
     };
     let receipts = Listing { count, first };
-    TailScan::Of(TailMarks { anchors, sigs, receipts }, end)
+    TailScan::Of(
+        TailMarks {
+            anchors,
+            sigs,
+            receipts,
+        },
+        end,
+    )
 }
 
 pub fn scan_inception(s: &[u8], at: usize) -> EventScan
@@ -405,7 +426,10 @@ fn no_body() -> BodyMarks
         total: 0,
         weights: 0,
     };
-    let quorum = QuorumMarks { items: none, threshold };
+    let quorum = QuorumMarks {
+        items: none,
+        threshold,
+    };
     let signers = SignersMarks {
         authority: quorum,
         commitment: quorum,
@@ -449,7 +473,14 @@ fn scan_last(s: &[u8], at: usize) -> LastScan
     if end != s.len() {
         return LastScan::Bad;
     }
-    LastScan::Of(LastMarks { transferable, sn, said }, end)
+    LastScan::Of(
+        LastMarks {
+            transferable,
+            sn,
+            said,
+        },
+        end,
+    )
 }
 
 // A snapshot has what an inception sets up between its latest type and its flag.
@@ -490,7 +521,12 @@ pub fn copy_head(s: &[u8], m: HeadMarks) -> Head
     let sn = m.sn;
     let said = field::copy_item(s, m.said);
     let prior = field::copy_item(s, m.prior);
-    Head { prefix, sn, said, prior }
+    Head {
+        prefix,
+        sn,
+        said,
+        prior,
+    }
 }
 
 fn copy_authority(s: &[u8], m: QuorumMarks) -> Authority
