@@ -1,12 +1,12 @@
 -- Records by their places against layout's records by value: scanning a record and copying what stands at its marks is reading
 -- it. Assumes nothing.
-use mathlib.Core.Path.{_≡_, refl, sym, ap, _∙_}
+use mathlib.Core.Path.{_≡_, refl, ap, _∙_}
 use mathlib.Core.Bool.{Bool, true, false}
 use mathlib.Core.List.{List, []}
-use Prim.Native.Nat.{ℕ, _+_, _*_}
+use Prim.Native.Nat.{ℕ}
 use native.Mathlib.Nat.{le-refl}
 use native.Mathlib.Omega.{arith}
-use lib.Dec.{leb, eqb}
+use lib.Dec.{eqb}
 use lib.ListN.{length}
 use Rattle.lists.specs.Lists.{pick}
 use Rattle.item.specs.declared.Item.{Item}
@@ -28,9 +28,9 @@ use Rattle.event.specs.declared.Event.{Event}
 use Rattle.state.specs.declared.KeyState.{KeyState}
 use Rattle.state.specs.State.{noThreshold}
 use Rattle.format.specs.Parse.{Parse, got, bad, bind, numAt, ended}
-use Rattle.format.specs.Fields.{snAt, itemAt, itemsAt, configAt, flagAt, thresholdAt, sigersAt}
+use Rattle.format.specs.Fields.{snAt, flagAt}
 use Rattle.layout.specs.Records.{firstHeadAt, laterHeadAt, authorityAt, commitmentAt, inceptionBodyAt, rotationBodyAt, tailAt, inceptionAt, rotationAt, interactionAt, latestAt, snapshotAt, noBody}
-use Rattle.cursor.specs.Spans.{mapped, listOf, manyOf}
+use Rattle.cursor.specs.Spans.{mapped, manyOf}
 use Rattle.cursor.proofs.Laws.{as-is, at-place, list-none, many-got}
 use Rattle.field.specs.Field.{placeAt, itemsPlaceAt, configPlaceAt, byteOf, itemOf, itemsOf, configOf}
 use Rattle.field.proofs.Laws.{item-none, item-value, items-value, config-value}
@@ -149,7 +149,7 @@ module _ (s : List ℕ) (at : ℕ) where
       as-is (bodyOf s) (numAt 4 s u) _ _ λ toad n. rw (no-traits s)))
 
 tail-value : (ilk : Ilk) (s : List ℕ) (h : HeadMarks) (b : BodyMarks) (at : ℕ)
-  → mapped (λ (t : TailMarks). eventOf ilk s (record { head = h; body = b; tail = t })) (tailPlaces s at) ≡ tailAt ilk (headOf s h) (bodyOf s b) s at
+    → mapped (λ (t : TailMarks). eventOf ilk s (record { head = h; body = b; tail = t })) (tailPlaces s at) ≡ tailAt ilk (headOf s h) (bodyOf s b) s at
 unfolding tailPlaces tailAt ended
 tail-value ilk s h b at =
     let g : TailMarks → Event = λ t. eventOf ilk s (record { head = h; body = b; tail = t }) in
@@ -159,6 +159,10 @@ tail-value ilk s h b at =
     over g (eqb n (length s)) _ n
 
 -- ---- Whole records
+-- what was read by places, and by value
+pub with-value : {A B : Type 0} (g : A → B) {x p : Parse A} {v : Parse B} → mapped g p ≡ v → x ≡ p → (x ≡ p) × (mapped g x ≡ v)
+with-value g e h = (h, ap (mapped g) h ∙ e)
+
 module _ (s : List ℕ) (at : ℕ) where
   pub inception-value : mapped (eventOf Inception s) (inceptionPlaces s at) ≡ inceptionAt s at
   unfolding inceptionPlaces inceptionAt
@@ -213,26 +217,26 @@ module _ (s : List ℕ) (at : ℕ) where
 -- ---- What a copy holds
 module _ (s : List ℕ) where
   pub head-is : (m : HeadMarks) {p d r : Item} → p ≡ itemOf s (m .prefix) → d ≡ itemOf s (m .said) → r ≡ itemOf s (m .prior)
-    → _≡_ {A = Head} (record { prefix = p; sn = m .sn; said = d; prior = r }) (headOf s m)
+      → _≡_ {A = Head} (record { prefix = p; sn = m .sn; said = d; prior = r }) (headOf s m)
   head-is m a b c = rw (a, b, c)
 
   pub authority-is : (m : QuorumMarks) {k : Items} {t : Threshold} → k ≡ itemsOf s (m .items .count) (m .items .first) → t ≡ thresholdOf s (m .threshold)
-    → _≡_ {A = Authority} (record { keys = k; threshold = t }) (authorityOf s m)
+      → _≡_ {A = Authority} (record { keys = k; threshold = t }) (authorityOf s m)
   authority-is m a b = rw (a, b)
 
   pub commitment-is : (m : QuorumMarks) {k : Items} {t : Threshold} → k ≡ itemsOf s (m .items .count) (m .items .first) → t ≡ thresholdOf s (m .threshold)
-    → _≡_ {A = Commitment} (record { next = k; threshold = t }) (commitmentOf s m)
+      → _≡_ {A = Commitment} (record { next = k; threshold = t }) (commitmentOf s m)
   commitment-is m a b = rw (a, b)
 
   pub body-is : (m : BodyMarks) {a : Authority} {c : Commitment} {x y : Items} {f : Config}
-    → a ≡ authorityOf s (m .signers .authority) → c ≡ commitmentOf s (m .signers .commitment)
-    → x ≡ itemsOf s (m .additions .count) (m .additions .first) → y ≡ itemsOf s (m .removals .count) (m .removals .first)
-    → f ≡ configOf s (m .config .count) (m .config .first)
-    → _≡_ {A = Body} (record { authority = a; commitment = c; additions = x; removals = y; toad = m .toad; config = f }) (bodyOf s m)
+      → a ≡ authorityOf s (m .signers .authority) → c ≡ commitmentOf s (m .signers .commitment)
+      → x ≡ itemsOf s (m .additions .count) (m .additions .first) → y ≡ itemsOf s (m .removals .count) (m .removals .first)
+      → f ≡ configOf s (m .config .count) (m .config .first)
+      → _≡_ {A = Body} (record { authority = a; commitment = c; additions = x; removals = y; toad = m .toad; config = f }) (bodyOf s m)
   body-is m p q r t u = rw (p, q, r, t, u)
 
   pub state-is : (m : StateMarks) {h : Head} {b : Body} {i : Item} → h ≡ headOf s (m .head) → b ≡ bodyOf s (m .body) → i ≡ itemOf s (m .last .said)
-    → _≡_ {A = KeyState}
+      → _≡_ {A = KeyState}
       (record {
         prefix = h .prefix;
         sn = h .sn;

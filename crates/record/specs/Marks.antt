@@ -2,9 +2,7 @@
 -- are layout's records by value.
 use Prim.Native.Nat.{ℕ}
 use mathlib.Core.List.{List}
-use lib.Dec.{leb}
 use lib.ListN.{length}
-use Rattle.lists.specs.Lists.{pick}
 use Rattle.item.specs.declared.Kind.{Kind}
 use Rattle.item.specs.declared.Kind.the-variants.{Prefix, Key, Said}
 use Rattle.verification.specs.Verification.{packedSigers}
@@ -15,7 +13,7 @@ use Rattle.event.specs.declared.Head.{Head}
 use Rattle.event.specs.declared.Body.{Body}
 use Rattle.event.specs.declared.Event.{Event}
 use Rattle.state.specs.declared.KeyState.{KeyState}
-use Rattle.format.specs.Parse.{Parse, got, bad, bind, _>>=_, byteAt, numAt, classed, ended}
+use Rattle.format.specs.Parse.{Parse, got, bad, _>>=_, numAt, ended}
 use Rattle.format.specs.Fields.{snAt, flagAt}
 use Rattle.layout.specs.Records.{latestAt}
 use Rattle.field.specs.declared.Span as F

@@ -1,11 +1,13 @@
 // The bodies of records: scanned into marks, which are numbers and places only, and copied after. Signatures stay where they stand.
 ghost use mathlib.Core.Path.{_≡_};
-ghost use Rattle.threshold_field.specs.declared.Marks.{Marks};
+ghost use Rattle.event.specs.declared.Ilk.the-variants.{Inception, Rotation, Interaction};
+ghost use Rattle.layout.specs.Records.{inceptionAt, rotationAt, interactionAt, snapshotAt};
+ghost use Rattle.cursor.specs.Spans.{mapped};
 ghost use Rattle.record.specs.Marks.{headIs, quorumIs, signersIs, bodyIs, tailIs, eventIs, lastIs, stateIs};
 ghost use Rattle.record.specs.Marks.{refusalOfSpan, refusalOfSigers, refusalOfMarked, refusalOfQuorum, refusalOfSigners, refusalOfBody, refusalOfTail};
 ghost use Rattle.record.specs.Marks.{firstHeadPlaces, laterHeadPlaces, quorumPlaces, signersPlaces, inceptionBodyPlaces, rotationBodyPlaces, tailPlaces};
 ghost use Rattle.record.specs.Marks.{inceptionPlaces, rotationPlaces, interactionPlaces, lastPlaces, snapshotPlaces, noBodyMarks};
-ghost use Rattle.record.specs.Marks.{headOf, authorityOf, commitmentOf, bodyOf, stateOf};
+ghost use Rattle.record.specs.Marks.{headOf, authorityOf, commitmentOf, bodyOf, stateOf, eventOf};
 use authority::Authority;
 use authority::Commitment;
 use authority::Witnessing;
@@ -382,6 +384,7 @@ fn scan_tail(s: &[u8], at: usize) -> TailScan
 
 pub fn scan_inception(s: &[u8], at: usize) -> EventScan
     ensures { λ r. ⌜ eventIs r ≡ inceptionPlaces (now (s .entry)) at ⌝ }
+    ensures { λ r. ⌜ mapped (eventOf Inception (now (s .entry))) (eventIs r) ≡ inceptionAt (now (s .entry)) at ⌝ }
 {
     let HeadScan::Of(head, p) = scan_first_head(s, at) else {
         return EventScan::No(3);
@@ -399,6 +402,7 @@ pub fn scan_inception(s: &[u8], at: usize) -> EventScan
 
 pub fn scan_rotation(s: &[u8], at: usize) -> EventScan
     ensures { λ r. ⌜ eventIs r ≡ rotationPlaces (now (s .entry)) at ⌝ }
+    ensures { λ r. ⌜ mapped (eventOf Rotation (now (s .entry))) (eventIs r) ≡ rotationAt (now (s .entry)) at ⌝ }
 {
     let HeadScan::Of(head, p) = scan_later_head(s, at) else {
         return EventScan::No(3);
@@ -445,6 +449,7 @@ fn no_body() -> BodyMarks
 
 pub fn scan_interaction(s: &[u8], at: usize) -> EventScan
     ensures { λ r. ⌜ eventIs r ≡ interactionPlaces (now (s .entry)) at ⌝ }
+    ensures { λ r. ⌜ mapped (eventOf Interaction (now (s .entry))) (eventIs r) ≡ interactionAt (now (s .entry)) at ⌝ }
 {
     let HeadScan::Of(head, p) = scan_later_head(s, at) else {
         return EventScan::No(3);
@@ -486,6 +491,7 @@ fn scan_last(s: &[u8], at: usize) -> LastScan
 // A snapshot has what an inception sets up between its latest type and its flag.
 pub fn scan_snapshot(s: &[u8], at: usize) -> StateScan
     ensures { λ r. ⌜ stateIs r ≡ snapshotPlaces (now (s .entry)) at ⌝ }
+    ensures { λ r. ⌜ mapped (stateOf (now (s .entry))) (stateIs r) ≡ snapshotAt (now (s .entry)) at ⌝ }
 {
     let HeadScan::Of(head, p) = scan_first_head(s, at) else {
         return StateScan::No(3);

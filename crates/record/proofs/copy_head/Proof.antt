@@ -1,4 +1,3 @@
-use mathlib.Core.Path.{_≡_, refl, sym, _∙_, ap}
 use borrow.Author.Needs.{needs}
 use Rattle.record.proofs.Laws.{head-is}
 use Rattle.record.proofs.copy_head.Statement.{statement}

@@ -1,4 +1,4 @@
-use mathlib.Core.Path.{_≡_, refl, sym, _∙_, ap}
+use mathlib.Core.Path.{sym, _∙_, ap}
 use borrow.Author.Needs.{needs}
 use Rattle.field.specs.Field.{placeIs, snIs}
 use Rattle.record.specs.Marks.{firstHeadPlaces}
@@ -32,8 +32,10 @@ returns-2 : tie.Need-returns-2
 unfolding firstHeadPlaces
 returns-2 c =
     let c1 = c .before .before .before in
-    rw (sym (c1 .before .before .before .scan-item .ensures) ∙ ap placeIs (c1 .before .prefix .given .1),
-        sym (c .before .before .read-sn .ensures) ∙ ap snIs (c .enum-told2 .given .1))
+    rw (
+      sym (c1 .before .before .before .scan-item .ensures) ∙ ap placeIs (c1 .before .prefix .given .1),
+      sym (c .before .before .read-sn .ensures) ∙ ap snIs (c .enum-told2 .given .1),
+    )
 
 scan-item-requires-2 : tie.Need-scan-item-requires-2
 scan-item-requires-2 c κs = search needs
@@ -49,18 +51,22 @@ unfolding firstHeadPlaces
 returns-3 c =
     let c2 = c .before .before .before in
     let c1 = c2 .before .before .before .before in
-    rw (sym (c1 .before .before .before .scan-item .ensures) ∙ ap placeIs (c1 .before .prefix .given .1),
-        sym (c2 .before .before .before .read-sn .ensures) ∙ ap snIs (c2 .before .sn .given .1),
-        sym (c .before .before .scan-item2 .ensures) ∙ ap placeIs (c .enum-told3 .given .1))
+    rw (
+      sym (c1 .before .before .before .scan-item .ensures) ∙ ap placeIs (c1 .before .prefix .given .1),
+      sym (c2 .before .before .before .read-sn .ensures) ∙ ap snIs (c2 .before .sn .given .1),
+      sym (c .before .before .scan-item2 .ensures) ∙ ap placeIs (c .enum-told3 .given .1),
+    )
 
 returns-4 : tie.Need-returns-4
 unfolding firstHeadPlaces
 returns-4 c =
     let c2 = c .before .before .before .before in
     let c1 = c2 .before .before .before .before in
-    rw (sym (c1 .before .before .before .scan-item .ensures) ∙ ap placeIs (c1 .before .prefix .given .1),
-        sym (c2 .before .before .before .read-sn .ensures) ∙ ap snIs (c2 .before .sn .given .1),
-        sym (c .before .before .before .scan-item2 .ensures) ∙ ap placeIs (c .before .said .given .1))
+    rw (
+      sym (c1 .before .before .before .scan-item .ensures) ∙ ap placeIs (c1 .before .prefix .given .1),
+      sym (c2 .before .before .before .read-sn .ensures) ∙ ap snIs (c2 .before .sn .given .1),
+      sym (c .before .before .before .scan-item2 .ensures) ∙ ap placeIs (c .before .said .given .1),
+    )
 
 pub scan-first-head-spec : {M : Type 1} → statement M
 scan-first-head-spec =

@@ -1,4 +1,4 @@
-use mathlib.Core.Path.{_≡_, refl, sym, _∙_, ap}
+use mathlib.Core.Path.{sym, _∙_, ap}
 use borrow.Author.Needs.{needs}
 use Rattle.format.specs.Parse.{bad}
 use Rattle.cursor.specs.Cursor.{is32}
@@ -41,8 +41,10 @@ returns-2 : tie.Need-returns-2
 unfolding inceptionBodyPlaces
 returns-2 c =
     let c1 = c .before .before .before .before in
-    rw (sym (c1 .before .before .before .scan-signers .ensures) ∙ ap signersIs (c1 .before .signing .given .1),
-        sym (c .before .before .before .scan-items .ensures) ∙ ap spanIs (c .before .enum-told2 .given .1))
+    rw (
+      sym (c1 .before .before .before .scan-signers .ensures) ∙ ap signersIs (c1 .before .signing .given .1),
+      sym (c .before .before .before .scan-items .ensures) ∙ ap spanIs (c .before .enum-told2 .given .1),
+    )
     (ap bad (c .refusal-of-span .ensures ∙ ap refusalOfSpan (c .before .enum-told2 .given .1)))
 
 read-u32-requires : tie.Need-read-u32-requires
@@ -59,9 +61,11 @@ unfolding inceptionBodyPlaces
 returns-3 c =
     let c2 = c .before .before .before in
     let c1 = c2 .before .before .before .before in
-    rw (sym (c1 .before .before .before .scan-signers .ensures) ∙ ap signersIs (c1 .before .signing .given .1),
-        sym (c2 .before .before .before .scan-items .ensures) ∙ ap spanIs (c2 .before .witnesses .given .1),
-        sym (c .before .before .read-u32 .ensures) ∙ ap is32 (c .enum-told3 .given .1))
+    rw (
+      sym (c1 .before .before .before .scan-signers .ensures) ∙ ap signersIs (c1 .before .signing .given .1),
+      sym (c2 .before .before .before .scan-items .ensures) ∙ ap spanIs (c2 .before .witnesses .given .1),
+      sym (c .before .before .read-u32 .ensures) ∙ ap is32 (c .enum-told3 .given .1),
+    )
 
 scan-config-requires : tie.Need-scan-config-requires
 scan-config-requires c κs = search needs
@@ -81,10 +85,12 @@ returns-4 c =
     let c3 = c .before .before .before .before in
     let c2 = c3 .before .before .before .before in
     let c1 = c2 .before .before .before .before in
-    rw (sym (c1 .before .before .before .scan-signers .ensures) ∙ ap signersIs (c1 .before .signing .given .1),
-        sym (c2 .before .before .before .scan-items .ensures) ∙ ap spanIs (c2 .before .witnesses .given .1),
-        sym (c3 .before .before .before .read-u32 .ensures) ∙ ap is32 (c3 .before .toad .given .1),
-        sym (c .before .before .before .scan-config .ensures) ∙ ap spanIs (c .before .enum-told4 .given .1))
+    rw (
+      sym (c1 .before .before .before .scan-signers .ensures) ∙ ap signersIs (c1 .before .signing .given .1),
+      sym (c2 .before .before .before .scan-items .ensures) ∙ ap spanIs (c2 .before .witnesses .given .1),
+      sym (c3 .before .before .before .read-u32 .ensures) ∙ ap is32 (c3 .before .toad .given .1),
+      sym (c .before .before .before .scan-config .ensures) ∙ ap spanIs (c .before .enum-told4 .given .1),
+    )
     (ap bad (c .refusal-of-span2 .ensures ∙ ap refusalOfSpan (c .before .enum-told4 .given .1)))
 
 returns-5 : tie.Need-returns-5
@@ -93,10 +99,12 @@ returns-5 c =
     let c3 = c .before .before .before .before in
     let c2 = c3 .before .before .before .before in
     let c1 = c2 .before .before .before .before in
-    rw (sym (c1 .before .before .before .scan-signers .ensures) ∙ ap signersIs (c1 .before .signing .given .1),
-        sym (c2 .before .before .before .scan-items .ensures) ∙ ap spanIs (c2 .before .witnesses .given .1),
-        sym (c3 .before .before .before .read-u32 .ensures) ∙ ap is32 (c3 .before .toad .given .1),
-        sym (c .before .before .before .scan-config .ensures) ∙ ap spanIs (c .before .traits .given .1))
+    rw (
+      sym (c1 .before .before .before .scan-signers .ensures) ∙ ap signersIs (c1 .before .signing .given .1),
+      sym (c2 .before .before .before .scan-items .ensures) ∙ ap spanIs (c2 .before .witnesses .given .1),
+      sym (c3 .before .before .before .read-u32 .ensures) ∙ ap is32 (c3 .before .toad .given .1),
+      sym (c .before .before .before .scan-config .ensures) ∙ ap spanIs (c .before .traits .given .1),
+    )
 
 pub scan-inception-body-spec : {M : Type 1} → statement M
 scan-inception-body-spec =

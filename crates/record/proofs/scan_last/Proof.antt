@@ -1,4 +1,4 @@
-use mathlib.Core.Path.{_≡_, refl, sym, _∙_, ap}
+use mathlib.Core.Path.{sym, _∙_, ap}
 use borrow.Author.Needs.{needs}
 use borrow.Author.Tests.{eq-eqb, ne-eqb}
 use Rattle.format.specs.Parse.{ended}
@@ -34,8 +34,10 @@ returns-2 : tie.Need-returns-2
 unfolding lastPlaces ended
 returns-2 c =
     let c1 = c .before .before .before in
-    rw (sym (c1 .before .before .before .read-flag .ensures) ∙ ap flagIs (c1 .before .transferable .given .1),
-        sym (c .before .before .read-sn .ensures) ∙ ap snIs (c .enum-told2 .given .1))
+    rw (
+      sym (c1 .before .before .before .read-flag .ensures) ∙ ap flagIs (c1 .before .transferable .given .1),
+      sym (c .before .before .read-sn .ensures) ∙ ap snIs (c .enum-told2 .given .1),
+    )
 
 scan-item-requires : tie.Need-scan-item-requires
 scan-item-requires c κs = search needs
@@ -51,9 +53,11 @@ unfolding lastPlaces ended
 returns-3 c =
     let c2 = c .before .before .before in
     let c1 = c2 .before .before .before .before in
-    rw (sym (c1 .before .before .before .read-flag .ensures) ∙ ap flagIs (c1 .before .transferable .given .1),
-        sym (c2 .before .before .before .read-sn .ensures) ∙ ap snIs (c2 .before .sn .given .1),
-        sym (c .before .before .scan-item .ensures) ∙ ap placeIs (c .enum-told3 .given .1))
+    rw (
+      sym (c1 .before .before .before .read-flag .ensures) ∙ ap flagIs (c1 .before .transferable .given .1),
+      sym (c2 .before .before .before .read-sn .ensures) ∙ ap snIs (c2 .before .sn .given .1),
+      sym (c .before .before .scan-item .ensures) ∙ ap placeIs (c .enum-told3 .given .1),
+    )
 
 returns-4 : tie.Need-returns-4
 unfolding lastPlaces ended
@@ -61,10 +65,12 @@ returns-4 c =
     let c3 = c .before in
     let c2 = c3 .before .before .before .before in
     let c1 = c2 .before .before .before .before in
-    rw (sym (c1 .before .before .before .read-flag .ensures) ∙ ap flagIs (c1 .before .transferable .given .1),
-        sym (c2 .before .before .before .read-sn .ensures) ∙ ap snIs (c2 .before .sn .given .1),
-        sym (c3 .before .before .before .scan-item .ensures) ∙ ap placeIs (c3 .before .said .given .1),
-        ne-eqb _ _ (c .if1 .taken))
+    rw (
+      sym (c1 .before .before .before .read-flag .ensures) ∙ ap flagIs (c1 .before .transferable .given .1),
+      sym (c2 .before .before .before .read-sn .ensures) ∙ ap snIs (c2 .before .sn .given .1),
+      sym (c3 .before .before .before .scan-item .ensures) ∙ ap placeIs (c3 .before .said .given .1),
+      ne-eqb _ _ (c .if1 .taken),
+    )
 
 returns-5 : tie.Need-returns-5
 unfolding lastPlaces ended
@@ -72,10 +78,12 @@ returns-5 c =
     let c3 = c .before in
     let c2 = c3 .before .before .before .before in
     let c1 = c2 .before .before .before .before in
-    rw (sym (c1 .before .before .before .read-flag .ensures) ∙ ap flagIs (c1 .before .transferable .given .1),
-        sym (c2 .before .before .before .read-sn .ensures) ∙ ap snIs (c2 .before .sn .given .1),
-        sym (c3 .before .before .before .scan-item .ensures) ∙ ap placeIs (c3 .before .said .given .1),
-        eq-eqb _ _ (c .if1 .left))
+    rw (
+      sym (c1 .before .before .before .read-flag .ensures) ∙ ap flagIs (c1 .before .transferable .given .1),
+      sym (c2 .before .before .before .read-sn .ensures) ∙ ap snIs (c2 .before .sn .given .1),
+      sym (c3 .before .before .before .scan-item .ensures) ∙ ap placeIs (c3 .before .said .given .1),
+      eq-eqb _ _ (c .if1 .left),
+    )
 
 pub scan-last-spec : {M : Type 1} → statement M
 scan-last-spec =

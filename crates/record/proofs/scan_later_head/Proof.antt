@@ -1,4 +1,4 @@
-use mathlib.Core.Path.{_≡_, refl, sym, _∙_, ap}
+use mathlib.Core.Path.{sym, _∙_, ap}
 use borrow.Author.Needs.{needs}
 use Rattle.field.specs.Field.{placeIs}
 use Rattle.record.specs.Marks.{headIs, laterHeadPlaces}
@@ -32,16 +32,20 @@ returns-2 : tie.Need-returns-2
 unfolding laterHeadPlaces
 returns-2 c =
     let c1 = c .before .before .before in
-    rw (sym (c1 .before .before .before .scan-first-head .ensures) ∙ ap headIs (c1 .before .h .given .1),
-        sym (c .before .before .scan-item .ensures) ∙ ap placeIs (c .enum-told2 .given .1))
+    rw (
+      sym (c1 .before .before .before .scan-first-head .ensures) ∙ ap headIs (c1 .before .h .given .1),
+      sym (c .before .before .scan-item .ensures) ∙ ap placeIs (c .enum-told2 .given .1),
+    )
 
 returns-3 : tie.Need-returns-3
 unfolding laterHeadPlaces
 returns-3 c =
     let c2 = c .before in
     let c1 = c2 .before .before .before .before in
-    rw (sym (c1 .before .before .before .scan-first-head .ensures) ∙ ap headIs (c1 .before .h .given .1),
-        sym (c2 .before .before .before .scan-item .ensures) ∙ ap placeIs (c2 .before .prior .given .1))
+    rw (
+      sym (c1 .before .before .before .scan-first-head .ensures) ∙ ap headIs (c1 .before .h .given .1),
+      sym (c2 .before .before .before .scan-item .ensures) ∙ ap placeIs (c2 .before .prior .given .1),
+    )
 
 pub scan-later-head-spec : {M : Type 1} → statement M
 scan-later-head-spec =

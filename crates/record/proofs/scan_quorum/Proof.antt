@@ -1,4 +1,4 @@
-use mathlib.Core.Path.{_≡_, refl, sym, _∙_, ap}
+use mathlib.Core.Path.{sym, _∙_, ap}
 use borrow.Author.Needs.{needs}
 use Rattle.format.specs.Parse.{bad}
 use Rattle.field.specs.Field.{spanIs}
@@ -41,16 +41,20 @@ returns-2 : tie.Need-returns-2
 unfolding quorumPlaces
 returns-2 c =
     let c1 = c .before .before .before .before in
-    rw (sym (c1 .before .before .before .scan-items .ensures) ∙ ap spanIs (c1 .before .list .given .1),
-        sym (c .before .before .before .scan .ensures) ∙ ap markedIs (c .before .enum-told2 .given .1))
+    rw (
+      sym (c1 .before .before .before .scan-items .ensures) ∙ ap spanIs (c1 .before .list .given .1),
+      sym (c .before .before .before .scan .ensures) ∙ ap markedIs (c .before .enum-told2 .given .1),
+    )
     (ap bad (c .refusal-of-marked .ensures ∙ ap refusalOfMarked (c .before .enum-told2 .given .1)))
 
 returns-3 : tie.Need-returns-3
 unfolding quorumPlaces
 returns-3 c =
     let c1 = c .before .before .before .before in
-    rw (sym (c1 .before .before .before .scan-items .ensures) ∙ ap spanIs (c1 .before .list .given .1),
-        sym (c .before .before .before .scan .ensures) ∙ ap markedIs (c .before .marked .given .1))
+    rw (
+      sym (c1 .before .before .before .scan-items .ensures) ∙ ap spanIs (c1 .before .list .given .1),
+      sym (c .before .before .before .scan .ensures) ∙ ap markedIs (c .before .marked .given .1),
+    )
 
 pub scan-quorum-spec : {M : Type 1} → statement M
 scan-quorum-spec =

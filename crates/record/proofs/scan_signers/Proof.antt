@@ -1,4 +1,4 @@
-use mathlib.Core.Path.{_≡_, refl, sym, _∙_, ap}
+use mathlib.Core.Path.{sym, _∙_, ap}
 use borrow.Author.Needs.{needs}
 use Rattle.format.specs.Parse.{bad}
 use Rattle.record.specs.Marks.{quorumIs, refusalOfQuorum, signersPlaces}
@@ -39,16 +39,20 @@ returns-2 : tie.Need-returns-2
 unfolding signersPlaces
 returns-2 c =
     let c1 = c .before .before .before .before in
-    rw (sym (c1 .before .before .before .scan-quorum .ensures) ∙ ap quorumIs (c1 .before .own .given .1),
-        sym (c .before .before .before .scan-quorum2 .ensures) ∙ ap quorumIs (c .before .enum-told2 .given .1))
+    rw (
+      sym (c1 .before .before .before .scan-quorum .ensures) ∙ ap quorumIs (c1 .before .own .given .1),
+      sym (c .before .before .before .scan-quorum2 .ensures) ∙ ap quorumIs (c .before .enum-told2 .given .1),
+    )
     (ap bad (c .refusal-of-quorum2 .ensures ∙ ap refusalOfQuorum (c .before .enum-told2 .given .1)))
 
 returns-3 : tie.Need-returns-3
 unfolding signersPlaces
 returns-3 c =
     let c1 = c .before .before .before .before in
-    rw (sym (c1 .before .before .before .scan-quorum .ensures) ∙ ap quorumIs (c1 .before .own .given .1),
-        sym (c .before .before .before .scan-quorum2 .ensures) ∙ ap quorumIs (c .before .coming .given .1))
+    rw (
+      sym (c1 .before .before .before .scan-quorum .ensures) ∙ ap quorumIs (c1 .before .own .given .1),
+      sym (c .before .before .before .scan-quorum2 .ensures) ∙ ap quorumIs (c .before .coming .given .1),
+    )
 
 pub scan-signers-spec : {M : Type 1} → statement M
 scan-signers-spec =

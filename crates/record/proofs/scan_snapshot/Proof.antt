@@ -1,10 +1,11 @@
-use mathlib.Core.Path.{_≡_, refl, sym, _∙_, ap}
+use mathlib.Core.Path.{sym, _∙_, ap}
 use borrow.Author.Needs.{needs}
 use borrow.Author.Tests.{le-leb, lt-leb}
 use Rattle.format.specs.Parse.{bad}
 use Rattle.layout.specs.Records.{latestAt}
 use Rattle.cursor.specs.Cursor.{is8}
-use Rattle.record.specs.Marks.{bodyIs, headIs, lastIs, refusalOfBody, snapshotPlaces}
+use Rattle.record.specs.Marks.{stateOf, bodyIs, headIs, lastIs, refusalOfBody, snapshotPlaces}
+use Rattle.record.proofs.Laws.{snapshot-value, with-value}
 use Rattle.record.proofs.scan_snapshot.Statement.{statement}
 use Rattle.record.proofs.scan_snapshot.Tie as tie
 
@@ -20,7 +21,8 @@ enum-told c = search needs
 returns : tie.Need-returns
 unfolding snapshotPlaces latestAt
 returns c =
-    rw (sym (c .before .before .scan-first-head .ensures) ∙ ap headIs (c .enum-told .given .1))
+    with-value (stateOf _) (snapshot-value _ _)
+    (rw (sym (c .before .before .scan-first-head .ensures) ∙ ap headIs (c .enum-told .given .1)))
 
 read-u8-requires : tie.Need-read-u8-requires
 read-u8-requires c κs = search needs
@@ -35,17 +37,23 @@ returns-2 : tie.Need-returns-2
 unfolding snapshotPlaces latestAt
 returns-2 c =
     let c1 = c .before .before .before in
-    rw (sym (c1 .before .before .before .scan-first-head .ensures) ∙ ap headIs (c1 .before .head .given .1),
-        sym (c .before .before .read-u8 .ensures) ∙ ap is8 (c .enum-told2 .given .1))
+    with-value (stateOf _) (snapshot-value _ _)
+    (rw (
+      sym (c1 .before .before .before .scan-first-head .ensures) ∙ ap headIs (c1 .before .head .given .1),
+      sym (c .before .before .read-u8 .ensures) ∙ ap is8 (c .enum-told2 .given .1),
+    ))
 
 returns-3 : tie.Need-returns-3
 unfolding snapshotPlaces latestAt
 returns-3 c =
     let c2 = c .before in
     let c1 = c2 .before .before .before .before in
-    rw (sym (c1 .before .before .before .scan-first-head .ensures) ∙ ap headIs (c1 .before .head .given .1),
-        sym (c2 .before .before .before .read-u8 .ensures) ∙ ap is8 (c2 .before .latest .given .1),
-        lt-leb _ _ (c .if1 .taken))
+    with-value (stateOf _) (snapshot-value _ _)
+    (rw (
+      sym (c1 .before .before .before .scan-first-head .ensures) ∙ ap headIs (c1 .before .head .given .1),
+      sym (c2 .before .before .before .read-u8 .ensures) ∙ ap is8 (c2 .before .latest .given .1),
+      lt-leb _ _ (c .if1 .taken),
+    ))
 
 scan-inception-body-requires : tie.Need-scan-inception-body-requires
 scan-inception-body-requires c κs = search needs
@@ -64,11 +72,14 @@ unfolding snapshotPlaces latestAt
 returns-4 c =
     let c2 = c .before .before .before .before .before in
     let c1 = c2 .before .before .before .before in
-    rw (sym (c1 .before .before .before .scan-first-head .ensures) ∙ ap headIs (c1 .before .head .given .1),
-        sym (c2 .before .before .before .read-u8 .ensures) ∙ ap is8 (c2 .before .latest .given .1),
-        le-leb _ _ (c .before .before .before .before .if1 .left),
-        sym (c .before .before .before .scan-inception-body .ensures) ∙ ap bodyIs (c .before .enum-told3 .given .1))
-    (ap bad (c .refusal-of-body .ensures ∙ ap refusalOfBody (c .before .enum-told3 .given .1)))
+    with-value (stateOf _) (snapshot-value _ _)
+    (rw (
+      sym (c1 .before .before .before .scan-first-head .ensures) ∙ ap headIs (c1 .before .head .given .1),
+      sym (c2 .before .before .before .read-u8 .ensures) ∙ ap is8 (c2 .before .latest .given .1),
+      le-leb _ _ (c .before .before .before .before .if1 .left),
+      sym (c .before .before .before .scan-inception-body .ensures) ∙ ap bodyIs (c .before .enum-told3 .given .1),
+    )
+    (ap bad (c .refusal-of-body .ensures ∙ ap refusalOfBody (c .before .enum-told3 .given .1))))
 
 scan-last-requires : tie.Need-scan-last-requires
 scan-last-requires c κs = search needs
@@ -85,11 +96,14 @@ returns-5 c =
     let c3 = c .before .before .before in
     let c2 = c3 .before .before .before .before .before in
     let c1 = c2 .before .before .before .before in
-    rw (sym (c1 .before .before .before .scan-first-head .ensures) ∙ ap headIs (c1 .before .head .given .1),
-        sym (c2 .before .before .before .read-u8 .ensures) ∙ ap is8 (c2 .before .latest .given .1),
-        le-leb _ _ (c .before .before .before .before .before .before .before .if1 .left),
-        sym (c3 .before .before .before .scan-inception-body .ensures) ∙ ap bodyIs (c3 .before .middle .given .1),
-        sym (c .before .before .scan-last .ensures) ∙ ap lastIs (c .enum-told4 .given .1))
+    with-value (stateOf _) (snapshot-value _ _)
+    (rw (
+      sym (c1 .before .before .before .scan-first-head .ensures) ∙ ap headIs (c1 .before .head .given .1),
+      sym (c2 .before .before .before .read-u8 .ensures) ∙ ap is8 (c2 .before .latest .given .1),
+      le-leb _ _ (c .before .before .before .before .before .before .before .if1 .left),
+      sym (c3 .before .before .before .scan-inception-body .ensures) ∙ ap bodyIs (c3 .before .middle .given .1),
+      sym (c .before .before .scan-last .ensures) ∙ ap lastIs (c .enum-told4 .given .1),
+    ))
 
 returns-6 : tie.Need-returns-6
 unfolding snapshotPlaces latestAt
@@ -97,11 +111,14 @@ returns-6 c =
     let c3 = c .before .before .before .before in
     let c2 = c3 .before .before .before .before .before in
     let c1 = c2 .before .before .before .before in
-    rw (sym (c1 .before .before .before .scan-first-head .ensures) ∙ ap headIs (c1 .before .head .given .1),
-        sym (c2 .before .before .before .read-u8 .ensures) ∙ ap is8 (c2 .before .latest .given .1),
-        le-leb _ _ (c .before .before .before .before .before .before .before .before .if1 .left),
-        sym (c3 .before .before .before .scan-inception-body .ensures) ∙ ap bodyIs (c3 .before .middle .given .1),
-        sym (c .before .before .before .scan-last .ensures) ∙ ap lastIs (c .before .last .given .1))
+    with-value (stateOf _) (snapshot-value _ _)
+    (rw (
+      sym (c1 .before .before .before .scan-first-head .ensures) ∙ ap headIs (c1 .before .head .given .1),
+      sym (c2 .before .before .before .read-u8 .ensures) ∙ ap is8 (c2 .before .latest .given .1),
+      le-leb _ _ (c .before .before .before .before .before .before .before .before .if1 .left),
+      sym (c3 .before .before .before .scan-inception-body .ensures) ∙ ap bodyIs (c3 .before .middle .given .1),
+      sym (c .before .before .before .scan-last .ensures) ∙ ap lastIs (c .before .last .given .1),
+    ))
 
 pub scan-snapshot-spec : {M : Type 1} → statement M
 scan-snapshot-spec =

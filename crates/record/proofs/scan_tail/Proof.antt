@@ -1,4 +1,4 @@
-use mathlib.Core.Path.{_≡_, refl, sym, _∙_, ap}
+use mathlib.Core.Path.{sym, _∙_, ap}
 use borrow.Author.Needs.{needs}
 use borrow.Author.Tests.{eq-eqb, ne-eqb}
 use Rattle.format.specs.Parse.{bad, ended}
@@ -38,8 +38,10 @@ returns-2 : tie.Need-returns-2
 unfolding tailPlaces ended
 returns-2 c =
     let c1 = c .before .before .before .before in
-    rw (sym (c1 .before .before .before .read-u32 .ensures) ∙ ap is32 (c1 .before .anchors .given .1),
-        sym (c .before .before .before .scan .ensures) ∙ ap sigers.spanIs (c .before .enum-told2 .given .1))
+    rw (
+      sym (c1 .before .before .before .read-u32 .ensures) ∙ ap is32 (c1 .before .anchors .given .1),
+      sym (c .before .before .before .scan .ensures) ∙ ap sigers.spanIs (c .before .enum-told2 .given .1),
+    )
     (ap bad (c .refusal-of-sigers .ensures ∙ ap refusalOfSigers (c .before .enum-told2 .given .1)))
 
 scan-requires-2 : tie.Need-scan-requires-2
@@ -59,9 +61,11 @@ unfolding tailPlaces ended
 returns-3 c =
     let c2 = c .before .before .before .before in
     let c1 = c2 .before .before .before .before in
-    rw (sym (c1 .before .before .before .read-u32 .ensures) ∙ ap is32 (c1 .before .anchors .given .1),
-        sym (c2 .before .before .before .scan .ensures) ∙ ap sigers.spanIs (c2 .before .signed .given .1),
-        sym (c .before .before .before .scan2 .ensures) ∙ ap sigers.spanIs (c .before .enum-told3 .given .1))
+    rw (
+      sym (c1 .before .before .before .read-u32 .ensures) ∙ ap is32 (c1 .before .anchors .given .1),
+      sym (c2 .before .before .before .scan .ensures) ∙ ap sigers.spanIs (c2 .before .signed .given .1),
+      sym (c .before .before .before .scan2 .ensures) ∙ ap sigers.spanIs (c .before .enum-told3 .given .1),
+    )
     (ap bad (c .refusal-of-sigers2 .ensures ∙ ap refusalOfSigers (c .before .enum-told3 .given .1)))
 
 returns-4 : tie.Need-returns-4
@@ -70,10 +74,12 @@ returns-4 c =
     let c3 = c .before in
     let c2 = c3 .before .before .before .before in
     let c1 = c2 .before .before .before .before in
-    rw (sym (c1 .before .before .before .read-u32 .ensures) ∙ ap is32 (c1 .before .anchors .given .1),
-        sym (c2 .before .before .before .scan .ensures) ∙ ap sigers.spanIs (c2 .before .signed .given .1),
-        sym (c3 .before .before .before .scan2 .ensures) ∙ ap sigers.spanIs (c3 .before .receipted .given .1),
-        ne-eqb _ _ (c .if1 .taken))
+    rw (
+      sym (c1 .before .before .before .read-u32 .ensures) ∙ ap is32 (c1 .before .anchors .given .1),
+      sym (c2 .before .before .before .scan .ensures) ∙ ap sigers.spanIs (c2 .before .signed .given .1),
+      sym (c3 .before .before .before .scan2 .ensures) ∙ ap sigers.spanIs (c3 .before .receipted .given .1),
+      ne-eqb _ _ (c .if1 .taken),
+    )
 
 returns-5 : tie.Need-returns-5
 unfolding tailPlaces ended
@@ -81,10 +87,12 @@ returns-5 c =
     let c3 = c .before in
     let c2 = c3 .before .before .before .before in
     let c1 = c2 .before .before .before .before in
-    rw (sym (c1 .before .before .before .read-u32 .ensures) ∙ ap is32 (c1 .before .anchors .given .1),
-        sym (c2 .before .before .before .scan .ensures) ∙ ap sigers.spanIs (c2 .before .signed .given .1),
-        sym (c3 .before .before .before .scan2 .ensures) ∙ ap sigers.spanIs (c3 .before .receipted .given .1),
-        eq-eqb _ _ (c .if1 .left))
+    rw (
+      sym (c1 .before .before .before .read-u32 .ensures) ∙ ap is32 (c1 .before .anchors .given .1),
+      sym (c2 .before .before .before .scan .ensures) ∙ ap sigers.spanIs (c2 .before .signed .given .1),
+      sym (c3 .before .before .before .scan2 .ensures) ∙ ap sigers.spanIs (c3 .before .receipted .given .1),
+      eq-eqb _ _ (c .if1 .left),
+    )
 
 pub scan-tail-spec : {M : Type 1} → statement M
 scan-tail-spec =
