@@ -28,3 +28,8 @@ passes x = eqb (x .number) 0
 unfoldable pub firstRefusal : List Answer → Answer
 firstRefusal [] = accepted
 firstRefusal (x ∷ xs) = pick (passes x) (firstRefusal xs) x
+
+-- the first number that is not 0: the shape of fields in order
+unfoldable pub firstFault : List ℕ → ℕ
+firstFault [] = 0
+firstFault (n ∷ ns) = pick (eqb n 0) (firstFault ns) n

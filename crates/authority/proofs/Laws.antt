@@ -9,15 +9,15 @@ use lib.ListN.{length, length-take}
 use borrow.Author.Tests.{lt-ltb, le-leb, lt-leb, eq-eqb, ne-eqb}
 use Rattle.lists.specs.Lists.{pick}
 use Rattle.answer.specs.declared.Answer.{Answer}
-use Rattle.answer.specs.Answer.{refused, accepted, firstRefusal}
-use Rattle.answer.proofs.Laws.{passed, stopped}
+use Rattle.answer.specs.Answer.{refused, accepted, passes, firstRefusal}
+use Rattle.answer.proofs.Laws.{passed, stopped, Clean, clean-unless, last}
 use Rattle.items.specs.declared.Items.{Items}
 use Rattle.items.specs.Items.{listed}
 use Rattle.places.specs.Places.{bitAt, placesIn, among}
 use Rattle.places.proofs.Laws.{among-chosen, places-set}
 use Rattle.threshold.specs.declared.Threshold.{Threshold}
 use Rattle.threshold.specs.Threshold.{judged, isMet, satisfied}
-use Rattle.threshold.proofs.Laws.{judged-same, last}
+use Rattle.threshold.proofs.Laws.{judged-same}
 use Rattle.verification.specs.declared.Sigers.{Sigers}
 use Rattle.verification.specs.declared.Counted.{Counted}
 use Rattle.verification.specs.Verification.{signatures, verifiedAt, exposedAt, verifiedPlaces, exposedPlaces, countedOf}
@@ -49,13 +49,9 @@ module _ (which : ℕ) (t : Threshold) (set n : ℕ) (h : length (t .weights) �
   quorum-short m = rw (sym (ap isMet same-judged) ∙ m, e)
 
 -- a quorum that passes is nothing but accepted
-quorum-plain : (which : ℕ) (t : Threshold) (ps : List ℕ) → (which ≡ 0 → ⊥) → quorum which t ps .number ≡ 0 → quorum which t ps ≡ accepted
+pub clean-quorum : (which : ℕ) (t : Threshold) (ps : List ℕ) → passes (refused which (length ps) 0) ≡ false → Clean (quorum which t ps)
 unfolding quorum
-quorum-plain which t ps ne = by-test (satisfied t ps)
-  where
-    by-test : (b : Bool) → pick b accepted (refused which (length ps) 0) .number ≡ 0 → pick b accepted (refused which (length ps) 0) ≡ accepted
-    by-test true e = refl
-    by-test false e = absurd (ne e)
+clean-quorum which t ps f = clean-unless (satisfied t ps) (refused which (length ps) 0) f
 
 -- ---- receipts
 pub receipts-none : (toad : ℕ) (ps : List ℕ) → toad ≡ 0 → accepted ≡ receipts toad ps
@@ -101,5 +97,5 @@ module _ (keys next : ℕ) (l : Sigers) (c : Counted) (e : c ≡ countedOf keys 
       let g = f ∙ verifies-is a k in
       let y : Answer = exposedBy (o .threshold) (length (listed (a .keys))) (length (listed (o .next))) (signatures l) in
       let h : quorum 28 (o .threshold) (placesIn (c .exposed)) ≡ y = rw (exposed-is, k, m) in
-      let p : firstRefusal (y ∷ []) ≡ y = last y (quorum-plain 28 (o .threshold) _ (λ d. omega (arith, d))) in
-      h ∙ sym (passed (verifies a l) (y ∷ []) (sym (ap (λ (b : Answer). b .number) g) ∙ z) ∙ p)
+      let p : y ≡ firstRefusal (y ∷ []) = last y y (clean-quorum 28 (o .threshold) _ refl) refl in
+      h ∙ p ∙ sym (passed (verifies a l) (y ∷ []) (sym (ap (λ (b : Answer). b .number) g) ∙ z))

@@ -12,7 +12,7 @@ pub struct Config {
 
 const EST_ONLY: u8 = 1;
 
-fn is_trait(t: u8) -> bool
+pub fn is_trait(t: u8) -> bool
     ensures { λ r. ⌜ r ≡ isTrait t ⌝ }
 {
     match t {

@@ -1,5 +1,5 @@
 -- The sole key as the code reads it, and the groups of checks one after the other. Assumes nothing.
-use mathlib.Core.Path.{_≡_, refl, _∙_}
+use mathlib.Core.Path.{_≡_, refl, sym, _∙_}
 use mathlib.Core.Bool.{Bool, true, false}
 use mathlib.Core.List.{List, [], _∷_}
 use Prim.Native.Nat.{ℕ, zero, suc, _<_}
@@ -11,8 +11,8 @@ use mir.Val.{Val}
 use denote.Laws.{Is}
 use Rattle.answer.specs.declared.Answer.{Answer}
 use Rattle.lists.specs.Lists.{both}
-use Rattle.answer.specs.Answer.{refused, accepted, refuseUnless, passes, firstRefusal}
-use Rattle.answer.proofs.Laws.{passed, stopped}
+use Rattle.answer.specs.Answer.{refused, accepted, refuseUnless, firstRefusal}
+use Rattle.answer.proofs.Laws.{passed, stopped, clean-first, last}
 use Rattle.items.specs.declared.Items.{Items}
 use Rattle.items.proofs.Items.{the-row}
 use Rattle.items.proofs.Laws.{noItem, places-16}
@@ -39,17 +39,6 @@ unfolding firstRefusal
 sole-last prefix keys t n s key k true e = rw (eq-eqb (keys .count) 1 n, s, ← k, e)
 sole-last prefix keys t n s key k false e = rw (eq-eqb (keys .count) 1 n, s, ← k, e)
 
--- a group of checks answers for itself
-pub alone : (xs : List Answer) → firstRefusal (firstRefusal xs ∷ []) ≡ firstRefusal xs
-unfolding firstRefusal
-alone [] = refl
-alone (x ∷ xs) = by-test (passes x) refl (alone xs)
-  where
-    by-test : (b : Bool) → passes x ≡ b → firstRefusal (firstRefusal xs ∷ []) ≡ firstRefusal xs
-        → firstRefusal (firstRefusal (x ∷ xs) ∷ []) ≡ firstRefusal (x ∷ xs)
-    by-test true e h = rw e h
-    by-test false e h = rw e (rw e)
-
 none : firstRefusal (accepted ∷ []) ≡ accepted
 unfolding firstRefusal
 none = refl
@@ -73,4 +62,5 @@ module _ (prefix : Item) (keys : Items) (t : Threshold) (next witnesses anchors 
         → identity prefix keys t next witnesses anchors ≡ firstRefusal (commitsNothing next witnesses anchors)
     unfolding identity
     may-not-commit h m =
-        rw (b, m, ← e) (passed sole (firstRefusal (commitsNothing next witnesses anchors) ∷ []) h ∙ alone (commitsNothing next witnesses anchors))
+        let group = commitsNothing next witnesses anchors in
+        rw (b, m, ← e) (passed sole (firstRefusal group ∷ []) h ∙ sym (last (firstRefusal group) (firstRefusal group) (clean-first group) refl))

@@ -63,3 +63,6 @@ itemFits k x = fitsOf k (x .code)
 
 abbrev pub isTransferable : Item → Bool
 isTransferable x = transferableOf (x .code)
+
+abbrev pub itemShape : Kind → Item → ℕ
+itemShape k x = pick (itemFits k x) 0 3

@@ -1,7 +1,7 @@
 // Items: a code byte and 32 bytes. The class of a code, and equality over all 33 bytes.
 ghost use mathlib.Core.Path.{_≡_};
 ghost use Rattle.lists.specs.Lists.{sameNumbers};
-ghost use Rattle.item.specs.Item.{classOf, fitsOf, basicOf, transferableOf, sameItem, zeroItem, isZero};
+ghost use Rattle.item.specs.Item.{itemShape, classOf, fitsOf, basicOf, transferableOf, sameItem, zeroItem, isZero};
 ghost use Rattle.item.specs.declared.Kind.the-variants.{Said};
 
 pub struct Item {
@@ -115,4 +115,11 @@ pub fn is_zero(x: Item) -> bool
 {
     let z = zero();
     same(z, x)
+}
+
+// 0, or 3 where the code is outside the class that the place asks for.
+pub fn shape(x: Item, kind: Kind) -> u8
+    ensures { λ r. ⌜ r ≡ itemShape kind x ⌝ }
+{
+    if fits(x.code, kind) { 0 } else { 3 }
 }

@@ -1,6 +1,6 @@
 -- Searches along a witness list, its checks in order, and the two passes of an update. Assumes nothing.
 --     found-, repeat-     a search at a place: here, on to the next, none left
---     stop, pass, last    the checks in order, one at a time; searched: one by a search; grouped: a group of them is one
+--     searched            a check by a search; change-groups: the checks of a change in their groups
 --     grown-, Kept, Joined, update-   the list on its way through an update
 use mathlib.Core.Path.{_≡_, refl, sym, _∙_, ap}
 use mathlib.Core.Bool.{Bool, true, false}
@@ -11,7 +11,7 @@ use native.Mathlib.Omega.{arith}
 use lib.Dec.{ltb}
 use lib.ListN.{length, take, drop, getD, set, length-take, length-append, drop-of-length-le}
 use lib.Seq.{take-all, take-take, take-append-le, take-suc, getD-take}
-use borrow.Author.Tests.{ltb-true, ltb-false, le-leb, lt-leb, ne-eqb}
+use borrow.Author.Tests.{ltb-true, ltb-false, le-leb, lt-leb}
 use Rattle.lists.specs.Lists.{pick, either, any, filter, firstFrom, isAt}
 use Rattle.lists.specs.declared.Found.{Found}
 use Rattle.lists.specs.declared.Found.the-variants.{At, Nothing}
@@ -25,8 +25,8 @@ use Rattle.items.specs.declared.Items.{Items}
 use Rattle.items.specs.Items.{listed, packed, member}
 use Rattle.items.proofs.Laws.{noItem, made, listed-packed}
 use Rattle.answer.specs.declared.Answer.{Answer}
-use Rattle.answer.specs.Answer.{refused, accepted, refuseIf, firstRefusal, passes}
-use Rattle.answer.proofs.Laws.{passed, stopped}
+use Rattle.answer.specs.Answer.{refused, accepted, refuseIf, firstRefusal}
+use Rattle.answer.proofs.Laws.{grouped}
 use Rattle.member_set.specs.declared.Change.{Change}
 use Rattle.member_set.specs.Members.{repeatFrom, absent, duplicate, transferable, overlap, notCurrent, present, changeFaults, joined, updated, changeOf}
 use Rattle.member_set.specs.Parts.{deltaFaults, staticFaults, grown, pushed}
@@ -81,38 +81,12 @@ module _ (places xs : List Item) (n i : ℕ) (e : take n places ≡ xs)
       sym s ∙ ap (repeatFrom [] 0) e
 
 -- ---- the checks in order
-module _ {a x : Answer} (xs : List Answer) (e : a ≡ x) where
-  pub stop : (a .number ≡ 0 → ⊥) → a ≡ firstRefusal (x ∷ xs)
-  stop h = let g : x .number ≡ 0 → ⊥ = rw e at h in e ∙ sym (stopped x xs g)
-
-  pub pass : {r : Answer} → a .number ≡ 0 → r ≡ firstRefusal xs → r ≡ firstRefusal (x ∷ xs)
-  pass h t = let g : x .number ≡ 0 = rw e at h in t ∙ sym (passed x xs g)
-
-alone : (f : Bool) (n a : ℕ) → 0 < n → refuseIf f (refused n a 0) ≡ firstRefusal (refuseIf f (refused n a 0) ∷ [])
-unfolding firstRefusal
-alone true n a h = rw (ne-eqb n 0 (λ (e : n ≡ 0). omega arith))
-alone false n a h = refl
-
-pub last : {r : Answer} (f : Bool) (n a : ℕ) → 0 < n → r ≡ refuseIf f (refused n a 0) → r ≡ firstRefusal (refuseIf f (refused n a 0) ∷ [])
-last f n a h e = e ∙ alone f n a h
-
 -- a check that refuses where a search ends at a place
 pub searched : {A : Type 0} {r : Answer} {found : Found} (f : A → Bool) (xs : List A) (x : Answer) → found ≡ firstFrom f 0 xs
     → r ≡ refuseIf (isAt found) x → r ≡ refuseIf (any f xs) x
 searched f xs x e g = g ∙ ap (λ (b : Bool). refuseIf b x) (ap isAt e ∙ first-any f 0 xs)
 
-group : (b : Bool) (x r : Answer) (ys : List Answer) → passes x ≡ b → (s : Answer) → firstRefusal (r ∷ ys) ≡ s
-    → firstRefusal (pick b r x ∷ ys) ≡ pick b s x
-unfolding firstRefusal
-group true x r ys t s e = e
-group false x r ys t s e = rw t
-
 -- a group of checks, then others, are all of them in order
-pub grouped : (xs ys : List Answer) → firstRefusal (firstRefusal xs ∷ ys) ≡ firstRefusal (xs ++ ys)
-unfolding firstRefusal
-grouped [] ys = refl
-grouped (x ∷ xs) ys = group (passes x) x (firstRefusal xs) ys refl (firstRefusal (xs ++ ys)) (grouped xs ys)
-
 pub change-groups : (current cuts adds : List Item)
     → firstRefusal (staticFaults cuts adds ∷ notCurrent current cuts ∷ present current adds ∷ []) ≡ changeFaults current cuts adds
 unfolding deltaFaults staticFaults changeFaults

@@ -1,15 +1,14 @@
 -- Two words against the number that they stand for. Assumes nothing.
 use mathlib.Core.Path.{_≡_, refl, sym, _∙_, ap}
 use mathlib.Core.Bool.{Bool, true, false}
-use Prim.Native.Nat.{ℕ, zero, suc, _+_, _*_, _/_, _%_, _^_, _<_, _≤_}
-use native.Mathlib.Nat.{mul-add-div-right, mul-add-mod-self-right, div-eq-of-lt, mod-eq-of-lt, add-zero, mul-le-mul-right}
+use Prim.Native.Nat.{ℕ, _+_, _*_, _^_, _<_, _≤_}
+use native.Mathlib.Nat.{mul-add-div-right, mul-add-mod-self-right, div-eq-of-lt, mod-eq-of-lt, add-zero, mul-le-mul-right, div-add-mod'}
 use native.Mathlib.Omega.{arith}
 use lib.Dec.{eqb, ltb}
 use borrow.Author.Tests.{lt-ltb, le-ltb, eqb-true, ltb-true, ltb-false}
-use Rattle.lists.specs.Lists.{both}
+use Rattle.lists.specs.Lists.{pick}
 use Rattle.lists.proofs.Facts.{both-true}
 use Rattle.number.specs.declared.Number.{Number}
-use Rattle.number.specs.declared.Successor.{Successor}
 use Rattle.number.specs.declared.Successor.the-variants.{Of, Last}
 use Rattle.number.specs.Number.{value, words, sameNumber, nextOf}
 
@@ -65,3 +64,15 @@ module _ (a b : Number) where
 
   pub below-high : (a .high ≡ b .high → ⊥) → a .low < 2 ^ 64 → b .low < 2 ^ 64 → ltb (a .high) (b .high) ≡ ltb (value a) (value b)
   below-high ne p q = ltb-same (a .high) (b .high) (value a) (value b) (λ h. omega (arith, h)) (λ h. omega (arith, h, ne))
+
+-- the words of a number stand for it, so the number after is one more
+value-words : (v : ℕ) → value (words v) ≡ v
+value-words v = div-add-mod' v (2 ^ 64)
+
+pub next-value : (n m : Number) → nextOf n ≡ Of m → value m ≡ value n + 1
+unfolding nextOf
+next-value n m e = by-test (ltb (value n + 1) (2 ^ 128)) e
+  where
+    by-test : (t : Bool) → pick t (Of (words (value n + 1))) Last ≡ Of m → value m ≡ value n + 1
+    by-test true p = let q : words (value n + 1) ≡ m = cc in ap value (sym q) ∙ value-words (value n + 1)
+    by-test false p = let z : _≡_ {A = ℕ} 0 1 = cc in absurd (omega arith)

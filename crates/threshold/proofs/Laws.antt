@@ -1,6 +1,6 @@
 -- Thresholds: the laws that the loops cite, and what a judgement depends on. Assumes nothing.
 --     weights-16           who owns a threshold knows that it has 16 weights
---     form-plain, last     well formed is accepted without details; the last check in a row gives the answer
+--     clean-form           well formed is accepted without details
 --     sum-.., clause-..    how many weights there are, and the sum of a clause, place by place
 --     reached, short, all-reached   clause after clause
 --     judged-same          only the places below 16 matter to a judgement
@@ -14,11 +14,11 @@ use lib.ListN.{length, drop, take, length-take, length-drop, length-map, drop-of
 use lib.Seq.{drop-drop, take-nil}
 use mir.Val.{Val}
 use denote.Laws.{Is}
-use borrow.Author.Tests.{ltb-true, ltb-false, eqb-true}
+use borrow.Author.Tests.{ltb-true, ltb-false}
 use Rattle.lists.specs.Lists.{pick, any}
 use Rattle.answer.specs.declared.Answer.{Answer}
-use Rattle.answer.specs.Answer.{refused, accepted, firstRefusal}
-use Rattle.answer.proofs.Laws.{passed, stopped}
+use Rattle.answer.specs.Answer.{refused}
+use Rattle.answer.proofs.Laws.{passed, stopped, Clean, clean-unless, clean-if, last}
 use Rattle.weight.specs.declared.Weight.{Weight}
 use Rattle.weight.specs.declared.Sum.{Sum}
 use Rattle.weight.specs.Weight.{weigh, noSum, reachesOne}
@@ -45,36 +45,21 @@ pub sum-end : (xs : List ℕ) (i : ℕ) → length xs ≤ i → sum (drop i xs) 
 unfolding sum
 sum-end xs i h = rw (drop-of-length-le xs h)
 
--- ---- well formed: an answer whose number is 0 has no details
-abbrev Plain : Answer → Type 0
-Plain x = x .number ≡ 0 → x ≡ accepted
+-- ---- well formed is accepted without details
+clean-pick : (b : Bool) (x y : Answer) → Clean x → Clean y → Clean (pick b x y)
+clean-pick true x y p q = p
+clean-pick false x y p q = q
 
-plain-pick : (b : Bool) (x y : Answer) → Plain x → Plain y → Plain (pick b x y)
-plain-pick true x y p q = p
-plain-pick false x y p q = q
+clean-most : (required keys : ℕ) → Clean (atMost required keys)
+clean-most required keys = clean-unless (leb required keys) (refused 24 required keys) refl
 
-plain-no : (n a b : ℕ) → (n ≡ 0 → ⊥) → Plain (refused n a b)
-plain-no n a b ne e = absurd (ne e)
-
-plain-most : (required keys : ℕ) → Plain (atMost required keys)
-plain-most required keys = plain-pick (leb required keys) _ _ (λ _. refl) (plain-no 24 required keys (λ e. omega (arith, e)))
-
-pub form-plain : (t : Threshold) (keys : ℕ) → wellFormed t keys .number ≡ 0 → wellFormed t keys ≡ accepted
+pub clean-form : (t : Threshold) (keys : ℕ) → Clean (wellFormed t keys)
 unfolding wellFormed
-form-plain t keys =
-    plain-pick (isSimple t) _ _
-    (plain-pick (eqb (t .simple) 0) _ _ (plain-no 23 0 0 (λ e. omega (arith, e))) (plain-most (t .simple) keys))
-    (plain-pick (eqb (t .clauses) 0) _ _ (plain-no 25 0 0 (λ e. omega (arith, e)))
-    (plain-pick (any (eqb 0) (sizesOf t)) _ _ (plain-no 26 0 0 (λ e. omega (arith, e))) (plain-most (weightsIn t) keys)))
-
--- the last check in a row gives the answer
-pub last : (x : Answer) → Plain x → firstRefusal (x ∷ []) ≡ x
-unfolding firstRefusal
-last x p = by-test (eqb (x .number) 0) refl
-  where
-    by-test : (b : Bool) → eqb (x .number) 0 ≡ b → firstRefusal (x ∷ []) ≡ x
-    by-test true e = rw e (sym (p (eqb-true (x .number) 0 e)))
-    by-test false e = rw e
+clean-form t keys =
+    clean-pick (isSimple t) _ _
+    (clean-pick (eqb (t .simple) 0) _ _ (clean-if true (refused 23 0 0) refl) (clean-most (t .simple) keys))
+    (clean-pick (eqb (t .clauses) 0) _ _ (clean-if true (refused 25 0 0) refl)
+    (clean-pick (any (eqb 0) (sizesOf t)) _ _ (clean-if true (refused 26 0 0) refl) (clean-most (weightsIn t) keys)))
 
 module _ (t : Threshold) (keys shape : ℕ) (is : shape ≡ shapeOf t) where
   pub shape-bad : (shape ≡ 0 → ⊥) → refused shape 0 0 ≡ checkWellFormed t keys
@@ -83,7 +68,7 @@ module _ (t : Threshold) (keys shape : ℕ) (is : shape ≡ shapeOf t) where
 
   pub shape-good : shape ≡ 0 → wellFormed t keys ≡ checkWellFormed t keys
   unfolding checkWellFormed
-  shape-good e = rw (← is) (sym (passed (refused shape 0 0) (wellFormed t keys ∷ []) e ∙ last (wellFormed t keys) (form-plain t keys)))
+  shape-good e = rw (← is) (last (wellFormed t keys) (wellFormed t keys) (clean-form t keys) refl ∙ sym (passed (refused shape 0 0) (wellFormed t keys ∷ []) e))
 
 -- ---- the sum of a clause: what is left of its run
 pub clause-next : (signed : ℕ → Bool) (s : Sum) (ws : List Weight) (k left : ℕ) (w : Weight) → drop k ws ≡ w ∷ drop (k + 1) ws → (left ≡ 0 → ⊥)

@@ -14,6 +14,7 @@ use Rattle.verification.specs.declared.Ondex.{Ondex}
 use Rattle.verification.specs.declared.Siger.{Siger}
 use Rattle.verification.specs.declared.Sigers.{Sigers}
 use Rattle.verification.specs.declared.Counted.{Counted}
+use Rattle.verification.specs.declared.Claim.{Claim}
 
 abbrev pub signatures : Sigers → List Siger
 signatures l = take (l .count) (l .at)
@@ -82,6 +83,22 @@ countedWith keys next c s =
     pick (both (s .verified) (ltb (s .index .0) keys))
     (record { verified = withPlace (c .verified) (s .index .0); exposed = exposedWith next (c .exposed) s })
     c
+
+-- what a claim says as a signature without bytes: the step asks for none
+abbrev pub claimed : Claim → Siger
+claimed s =
+    record {
+      code = 0;
+      index = s .index;
+      dual = s .dual;
+      ondex = s .ondex;
+      raw = [];
+      verified = s .verified;
+      matches = s .matches;
+    }
+
+abbrev pub claimOf : Siger → Claim
+claimOf s = record { index = s .index; dual = s .dual; ondex = s .ondex; verified = s .verified; matches = s .matches }
 
 -- ---- Shape. "ondex u32 (0 when the flag is 0)"; at most 48; unused places zero.
 abbrev pub noSiger : Siger

@@ -3,7 +3,7 @@ ghost use mathlib.Core.Path.{_≡_};
 ghost use lib.ListN.{drop};
 ghost use Rattle.lists.specs.Lists.{all, sameNumbers};
 ghost use Rattle.verification.specs.Verification.{signatures, sameFlag, sameWire, placeWithin, keyPlace, commitmentPlace};
-ghost use Rattle.verification.specs.Verification.{exposedWith, countedWith, countedOf, noSiger, ondexFits, zeroSiger, shapeOf};
+ghost use Rattle.verification.specs.Verification.{exposedWith, countedWith, countedOf, claimed, noSiger, ondexFits, zeroSiger, shapeOf};
 use lists::Found;
 
 pub struct Index(pub u32);
@@ -16,6 +16,15 @@ pub struct Siger {
     pub dual: bool,
     pub ondex: Ondex,
     pub raw: [u8; 64],
+    pub verified: bool,
+    pub matches: bool,
+}
+
+// What a signature says without its bytes: the places that it names, and its verdicts.
+pub struct Claim {
+    pub index: Index,
+    pub dual: bool,
+    pub ondex: Ondex,
     pub verified: bool,
     pub matches: bool,
 }
@@ -99,8 +108,8 @@ pub fn commitment_place(ondex: Ondex, next: usize) -> Found
 }
 
 // The exposed places with that of a verified signature, where it has an ondex within the commitments and its digest agrees.
-fn exposed_with(set: u16, s: Siger, next: usize) -> u16
-    ensures { λ r. ⌜ r ≡ exposedWith next set s ⌝ }
+fn exposed_with(set: u16, s: Claim, next: usize) -> u16
+    ensures { λ r. ⌜ r ≡ exposedWith next set (claimed s) ⌝ }
 {
     let ondex = s.ondex;
     if !s.dual {
@@ -116,9 +125,9 @@ fn exposed_with(set: u16, s: Siger, next: usize) -> u16
     }
 }
 
-// The places so far with those of one more signature that is no copy.
-pub fn counted_with(c: Counted, s: Siger, keys: usize, next: usize) -> Counted
-    ensures { λ r. ⌜ r ≡ countedWith keys next c s ⌝ }
+// The places so far with those of one more signature that is no copy: of its bytes nothing is asked.
+pub fn counted_claim(c: Counted, s: Claim, keys: usize, next: usize) -> Counted
+    ensures { λ r. ⌜ r ≡ countedWith keys next c (claimed s) ⌝ }
 {
     let index = s.index;
     if !s.verified {
@@ -133,6 +142,21 @@ pub fn counted_with(c: Counted, s: Siger, keys: usize, next: usize) -> Counted
         verified: verified,
         exposed: exposed,
     }
+}
+
+pub fn counted_with(c: Counted, s: Siger, keys: usize, next: usize) -> Counted
+    ensures { λ r. ⌜ r ≡ countedWith keys next c s ⌝ }
+{
+    let index = s.index;
+    let ondex = s.ondex;
+    let claim = Claim {
+        index,
+        dual: s.dual,
+        ondex,
+        verified: s.verified,
+        matches: s.matches,
+    };
+    counted_claim(c, claim, keys, next)
 }
 
 // One loop for signatures and receipts alike. A copy is looked for among the places before it.

@@ -1,10 +1,4 @@
-use mathlib.Core.Path.{_≡_, refl, sym, _∙_, ap}
-use mathlib.Core.List.{List, [], _∷_, _++_}
-use Prim.Native.Nat.{ℕ, _+_, _≤_, _<_, _-_}
-use native.Mathlib.Omega.{arith}
-use native.Mathlib.Numerals.{add-one}
 use borrow.Author.Needs.{needs}
-use lib.ListN.{length, drop, take, getD, set}
 use Rattle.answer.proofs.refuse.Statement.{statement}
 use Rattle.answer.proofs.refuse.Tie as tie
 use Rattle.answer.proofs.refuse.Reads as reads

@@ -1,10 +1,5 @@
-use mathlib.Core.Path.{_≡_, refl, sym, _∙_, ap}
-use mathlib.Core.List.{List, [], _∷_, _++_}
-use Prim.Native.Nat.{ℕ, _+_, _≤_, _<_, _-_}
 use native.Mathlib.Omega.{arith}
-use native.Mathlib.Numerals.{add-one}
 use borrow.Author.Needs.{needs}
-use lib.ListN.{length, drop, take, getD, set}
 use Rattle.number.proofs.Laws.{next-within, next-carry, next-none}
 use Rattle.number.proofs.next.Statement.{statement}
 use Rattle.number.proofs.next.Tie as tie

@@ -1,10 +1,3 @@
-use mathlib.Core.Path.{_≡_, refl, sym, _∙_, ap}
-use mathlib.Core.List.{List, [], _∷_, _++_}
-use Prim.Native.Nat.{ℕ, _+_, _≤_, _<_, _-_}
-use native.Mathlib.Omega.{arith}
-use native.Mathlib.Numerals.{add-one}
-use borrow.Author.Needs.{needs}
-use lib.ListN.{length, drop, take, getD, set}
 use borrow.Author.Tests.{eq-eqb, ne-eqb}
 use Rattle.number.specs.Number.{sameNumber}
 use Rattle.number.proofs.same.Statement.{statement}

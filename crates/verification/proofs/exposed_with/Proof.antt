@@ -2,6 +2,7 @@ use mathlib.Core.Path.{sym, _∙_}
 use native.Mathlib.Omega.{arith}
 use borrow.Author.Needs.{needs}
 use borrow.Author.Tests.{not-true, not-false}
+use Rattle.verification.specs.Verification.{claimed}
 use Rattle.verification.proofs.Laws.{exposed-off, exposed-past, exposed-not, exposed-in, within-at}
 use Rattle.verification.proofs.exposed_with.Statement.{statement}
 use Rattle.verification.proofs.exposed_with.Tie as tie
@@ -9,7 +10,7 @@ use Rattle.verification.proofs.exposed_with.Tie as tie
 returns : tie.Need-returns
 returns c =
     let a = c .before .before .before .args in
-    exposed-off (a .next) (a .set) (a .s) (not-true (a .s .dual) (c .if1 .taken))
+    exposed-off (a .next) (a .set) (claimed (a .s)) (not-true (a .s .dual) (c .if1 .taken))
 
 commitment-place-requires : tie.Need-commitment-place-requires
 commitment-place-requires c κs = search needs
@@ -23,7 +24,7 @@ enum-told c = search needs
 returns-2 : tie.Need-returns-2
 returns-2 c =
     let a = c .before .before .before .before .before .before .args in
-    exposed-past (a .next) (a .set) (a .s) (sym (c .before .before .commitment-place .ensures) ∙ c .enum-told .given .1)
+    exposed-past (a .next) (a .set) (claimed (a .s)) (sym (c .before .before .commitment-place .ensures) ∙ c .enum-told .given .1)
 
 cast-with-place : tie.Need-cast-with-place
 cast-with-place c =
@@ -41,13 +42,13 @@ returns-3 c =
     let b = u .before .before .before in
     let a = b .before .before .before .args in
     c .with-place .ensures
-    ∙ exposed-in (a .next) (a .set) (a .s) (u .place .given .0 .0) (not-false (a .s .dual) (b .if1 .left))
+    ∙ exposed-in (a .next) (a .set) (claimed (a .s)) (u .place .given .0 .0) (not-false (a .s .dual) (b .if1 .left))
     (sym (u .before .before .commitment-place .ensures) ∙ u .place .given .1) (c .before .if2 .taken)
 
 returns-4 : tie.Need-returns-4
 returns-4 c =
     let a = c .before .before .before .before .before .before .before .before .args in
-    exposed-not (a .next) (a .set) (a .s) (c .if2 .left)
+    exposed-not (a .next) (a .set) (claimed (a .s)) (c .if2 .left)
 
 pub exposed-with-spec : {M : Type 1} → statement M
 exposed-with-spec =

@@ -1,0 +1,2 @@
+pub mod Cursor
+pub mod Spans

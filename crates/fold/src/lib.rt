@@ -1,0 +1,111 @@
+// The unchecked fold: what accepted events make of a state, with nothing checked but shape and room.
+ghost use mathlib.Core.Path.{_≡_};
+ghost use Rattle.answer.specs.Answer.{accepted, refused};
+ghost use Rattle.items.specs.Items.{packed};
+ghost use Rattle.state.specs.State.{holding, genesis, rotated, stepped};
+ghost use Rattle.rules.specs.Rules.{newWitnesses};
+ghost use Rattle.member_set.specs.Members.{changeOf};
+ghost use Rattle.ingest.specs.Judgement.{settled};
+ghost use Rattle.fold.specs.Fold.{foldable, foldState, folded};
+use answer::Answer;
+use event::Event;
+use event::Ilk;
+use ingest::Offered;
+use state::Holder;
+use state::KeyState;
+
+fn refuse(h: Holder, which: u8) -> Offered
+    ensures { λ r. ⌜ r ≡ record { answer = refused which 0 0; holder = h } ⌝ }
+{
+    let x = answer::refuse(which, 0, 0);
+    Offered {
+        answer: x,
+        holder: h,
+    }
+}
+
+fn take(s: KeyState) -> Offered
+    ensures { λ r. ⌜ r ≡ record { answer = accepted; holder = holding s } ⌝ }
+{
+    let x = answer::accept();
+    let h = state::hold(s);
+    Offered {
+        answer: x,
+        holder: h,
+    }
+}
+
+// An inception starts afresh, at its own number.
+fn start(e: Event) -> Offered
+    ensures { λ r. ⌜ r ≡ record { answer = accepted; holder = holding (genesis (e .head) (e .body)) } ⌝ }
+{
+    let h = e.head;
+    let b = e.body;
+    let sn = h.sn;
+    let s = state::begin(sn, h, b);
+    take(s)
+}
+
+fn roll(before: Holder, e: Event) -> Offered
+    ensures { λ r. ⌜ r ≡ settled before (changeOf (newWitnesses (before .state) (e .body)) .answer) (holding (rotated (before .state) (e .head) (e .body) (packed (newWitnesses (before .state) (e .body))))) ⌝ }
+{
+    let h = e.head;
+    let b = e.body;
+    let old = before.state;
+    let witnessing = old.witnessing;
+    let current = witnessing.witnesses;
+    let cuts = b.removals;
+    let adds = b.additions;
+    let change = member_set::update(current, cuts, adds);
+    let x = change.answer;
+    if x.number != 0 {
+        return Offered {
+            answer: x,
+            holder: before,
+        };
+    }
+    let list = change.list;
+    let s = state::rotate(old, h, b, list);
+    take(s)
+}
+
+fn fold_as(before: Holder, e: Event) -> Offered
+    ensures { λ r. ⌜ r ≡ settled before (foldable (e .ilk) before e) (holding (foldState (before .state) e)) ⌝ }
+{
+    let ilk = e.ilk;
+    let held = before.held;
+    match ilk {
+        Ilk::Inception => start(e),
+        Ilk::Rotation => {
+            if !held {
+                return refuse(before, 8);
+            }
+            roll(before, e)
+        }
+        Ilk::Interaction => {
+            if !held {
+                return refuse(before, 8);
+            }
+            let h = e.head;
+            let old = before.state;
+            let s = state::step(old, h);
+            take(s)
+        }
+        Ilk::DelegatedInception => refuse(before, 6),
+        Ilk::DelegatedRotation => refuse(before, 6),
+    }
+}
+
+pub fn fold(before: Holder, e: Event) -> Offered
+    ensures { λ r. ⌜ r ≡ folded before e ⌝ }
+{
+    let n = shape::of_holder(before);
+    if n != 0 {
+        return refuse(before, n);
+    }
+    let m = shape::of_event(e);
+    if m != 0 {
+        return refuse(before, m);
+    }
+    fold_as(before, e)
+}

@@ -1,0 +1,4 @@
+pub mod Steps
+pub mod Theorems
+pub mod Awake
+pub mod Unique

@@ -1,0 +1,54 @@
+-- "Offer events to an empty holder, refused ones among them." What is held after a list of events, which of them were accepted,
+-- what each was answered, and the unchecked fold of a list.
+use Prim.Native.Nat.{ℕ, _+_}
+use mathlib.Core.List.{List, [], _∷_}
+use mathlib.Core.Bool.{Bool, false}
+use Rattle.lists.specs.Lists.{pick}
+use Rattle.number.specs.Number.{value}
+use Rattle.answer.specs.declared.Answer.{Answer}
+use Rattle.answer.specs.Answer.{passes}
+use Rattle.event.specs.declared.Event.{Event}
+use Rattle.state.specs.declared.Holder.{Holder}
+use Rattle.state.specs.State.{noState}
+use Rattle.ingest.specs.Judgement.{offered}
+use Rattle.fold.specs.Fold.{folded}
+
+-- a holder of nothing
+abbrev pub nothing : Holder
+nothing = record { held = false; state = noState }
+
+abbrev pub after : Holder → Event → Holder
+after h e = offered h e .holder
+
+abbrev pub takes : Holder → Event → Bool
+takes h e = passes (offered h e .answer)
+
+-- what is held after all of them
+unfoldable pub held : Holder → List Event → Holder
+held h [] = h
+held h (e ∷ es) = held (after h e) es
+
+-- those that were accepted, in order
+unfoldable pub kept : Holder → List Event → List Event
+kept h [] = []
+kept h (e ∷ es) = pick (takes h e) (e ∷ kept (after h e) es) (kept (after h e) es)
+
+-- the answers, in order
+unfoldable pub answers : Holder → List Event → List Answer
+answers h [] = []
+answers h (e ∷ es) = offered h e .answer ∷ answers (after h e) es
+
+-- the unchecked fold of all of them
+unfoldable pub foldAll : Holder → List Event → Holder
+foldAll h [] = h
+foldAll h (e ∷ es) = foldAll (folded h e .holder) es
+
+-- the events' numbers
+unfoldable pub numbers : List Event → List ℕ
+numbers [] = []
+numbers (e ∷ es) = value (e .head .sn) ∷ numbers es
+
+-- n, n + 1, n + 2, ..: as many as there are events
+unfoldable pub countFrom : ℕ → List Event → List ℕ
+countFrom n [] = []
+countFrom n (e ∷ es) = n ∷ countFrom (n + 1) es

@@ -1,0 +1,103 @@
+use mathlib.Core.Path.{sym, _∙_, ap}
+use borrow.Author.Needs.{needs}
+use Rattle.format.specs.Parse.{bad}
+use Rattle.record.specs.Marks.{eventOf, bodyIs, headIs, refusalOfBody, refusalOfTail, tailIs, rotationPlaces}
+use Rattle.event.specs.declared.Ilk.the-variants.{Rotation}
+use Rattle.record.proofs.Laws.{rotation-value, with-value}
+use Rattle.record.proofs.scan_rotation.Statement.{statement}
+use Rattle.record.proofs.scan_rotation.Tie as tie
+
+scan-later-head-requires : tie.Need-scan-later-head-requires
+scan-later-head-requires c κs = search needs
+
+enum-known-head : tie.Need-enum-known-head
+enum-known-head c = search needs
+
+enum-told : tie.Need-enum-told
+enum-told c = search needs
+
+returns : tie.Need-returns
+unfolding rotationPlaces
+returns c =
+    with-value (eventOf Rotation _) (rotation-value _ _)
+    (rw (sym (c .before .before .scan-later-head .ensures) ∙ ap headIs (c .enum-told .given .1)))
+
+scan-rotation-body-requires : tie.Need-scan-rotation-body-requires
+scan-rotation-body-requires c κs = search needs
+
+enum-known-middle : tie.Need-enum-known-middle
+enum-known-middle c = search needs
+
+enum-told-2 : tie.Need-enum-told-2
+enum-told-2 c = search needs
+
+refusal-of-body-requires : tie.Need-refusal-of-body-requires
+refusal-of-body-requires c κs = search needs
+
+returns-2 : tie.Need-returns-2
+unfolding rotationPlaces
+returns-2 c =
+    let c1 = c .before .before .before .before in
+    with-value (eventOf Rotation _) (rotation-value _ _)
+    (rw (
+      sym (c1 .before .before .before .scan-later-head .ensures) ∙ ap headIs (c1 .before .head .given .1),
+      sym (c .before .before .before .scan-rotation-body .ensures) ∙ ap bodyIs (c .before .enum-told2 .given .1),
+    )
+    (ap bad (c .refusal-of-body .ensures ∙ ap refusalOfBody (c .before .enum-told2 .given .1))))
+
+scan-tail-requires : tie.Need-scan-tail-requires
+scan-tail-requires c κs = search needs
+
+enum-known-rest : tie.Need-enum-known-rest
+enum-known-rest c = search needs
+
+enum-told-3 : tie.Need-enum-told-3
+enum-told-3 c = search needs
+
+refusal-of-tail-requires : tie.Need-refusal-of-tail-requires
+refusal-of-tail-requires c κs = search needs
+
+returns-3 : tie.Need-returns-3
+unfolding rotationPlaces
+returns-3 c =
+    let c2 = c .before .before .before .before in
+    let c1 = c2 .before .before .before .before in
+    with-value (eventOf Rotation _) (rotation-value _ _)
+    (rw (
+      sym (c1 .before .before .before .scan-later-head .ensures) ∙ ap headIs (c1 .before .head .given .1),
+      sym (c2 .before .before .before .scan-rotation-body .ensures) ∙ ap bodyIs (c2 .before .middle .given .1),
+      sym (c .before .before .before .scan-tail .ensures) ∙ ap tailIs (c .before .enum-told3 .given .1),
+    )
+    (ap bad (c .refusal-of-tail .ensures ∙ ap refusalOfTail (c .before .enum-told3 .given .1))))
+
+returns-4 : tie.Need-returns-4
+unfolding rotationPlaces
+returns-4 c =
+    let c2 = c .before .before .before .before in
+    let c1 = c2 .before .before .before .before in
+    with-value (eventOf Rotation _) (rotation-value _ _)
+    (rw (
+      sym (c1 .before .before .before .scan-later-head .ensures) ∙ ap headIs (c1 .before .head .given .1),
+      sym (c2 .before .before .before .scan-rotation-body .ensures) ∙ ap bodyIs (c2 .before .middle .given .1),
+      sym (c .before .before .before .scan-tail .ensures) ∙ ap tailIs (c .before .rest .given .1),
+    ))
+
+pub scan-rotation-spec : {M : Type 1} → statement M
+scan-rotation-spec =
+    tie.close
+    (tie.spec
+    scan-later-head-requires
+    enum-known-head
+    enum-told
+    returns
+    scan-rotation-body-requires
+    enum-known-middle
+    enum-told-2
+    refusal-of-body-requires
+    returns-2
+    scan-tail-requires
+    enum-known-rest
+    enum-told-3
+    refusal-of-tail-requires
+    returns-3
+    returns-4)
