@@ -1,6 +1,6 @@
 -- Config traits: what is a trait, how many places there are, and a config of the right shape. Assumes nothing.
-use mathlib.Core.Path.{_≡_, refl, sym}
-use mathlib.Core.Bool.{Bool, true, false}
+use mathlib.Core.Path.{_≡_, sym}
+use mathlib.Core.Bool.{true, false}
 use mathlib.Core.List.{List}
 use Prim.Native.Nat.{ℕ, _<_, _≤_}
 use native.Mathlib.Omega.{arith}
@@ -9,7 +9,8 @@ use lib.ListN.{length, drop, length-map, length-take}
 use mir.Val.{Val}
 use denote.Laws.{Is}
 use borrow.Author.Tests.{le-leb, lt-leb, leb-true, eqb-true}
-use Rattle.lists.specs.Lists.{pick, all}
+use Rattle.lists.specs.Lists.{all}
+use Rattle.lists.proofs.Facts.{picks}
 use Rattle.lists.proofs.Padding.{is-padded}
 use Rattle.config.specs.declared.Config.{Config}
 use Rattle.config.specs.Config.{traitsOf, packedTraits, isTrait, shapeOf}
@@ -37,12 +38,6 @@ pub record Good (c : Config) : Type 0 where
   pub few : c .count ≤ 8
   pub fit : all isTrait (traitsOf c) ≡ true
   pub rest : all (eqb 0) (drop (c .count) (c .traits)) ≡ true
-
-picks : (b f z : Bool) → _≡_ {A = ℕ} (pick b (pick f (pick z 0 3) 3) 4) 0 → (b ≡ true) × ((f ≡ true) × (z ≡ true))
-picks true true true e = (refl, (refl, refl))
-picks true true false e = absurd (omega arith)
-picks true false z e = absurd (omega arith)
-picks false f z e = absurd (omega arith)
 
 pub good : (c : Config) → shapeOf c ≡ 0 → Good c
 unfolding shapeOf

@@ -2,7 +2,7 @@
 use mathlib.Core.Path.{_≡_, refl, sym, _∙_}
 use mathlib.Core.Bool.{Bool, true, false}
 use mathlib.Core.List.{List, [], _∷_}
-use Prim.Native.Nat.{ℕ, zero, suc, _<_}
+use Prim.Native.Nat.{ℕ}
 use native.Mathlib.Omega.{arith}
 use lib.Dec.{eqb}
 use lib.ListN.{length, getD}
@@ -11,6 +11,7 @@ use mir.Val.{Val}
 use denote.Laws.{Is}
 use Rattle.answer.specs.declared.Answer.{Answer}
 use Rattle.lists.specs.Lists.{both}
+use Rattle.lists.proofs.Walks.{any-default}
 use Rattle.answer.specs.Answer.{refused, accepted, refuseUnless, firstRefusal}
 use Rattle.answer.proofs.Laws.{passed, stopped, clean-first, last}
 use Rattle.items.specs.declared.Items.{Items}
@@ -21,12 +22,6 @@ use Rattle.item.specs.Item.{sameItem, basicOf, transferableOf}
 use Rattle.threshold.specs.declared.Threshold.{Threshold}
 use Rattle.threshold.specs.Threshold.{isSimple}
 use Rattle.inception.specs.Identity.{firstKey, soleKey, commitsNothing, identity}
-
--- an element that is there is the same under any default
-any-default : {A : Type 0} (d e : A) (xs : List A) (i : ℕ) → i < length xs → getD xs i d ≡ getD xs i e
-any-default d e [] i h = absurd (omega arith)
-any-default d e (x ∷ xs) zero h = refl
-any-default d e (x ∷ xs) (suc i) h = any-default d e xs i (omega arith)
 
 pub first-key : (keys : Items) (vs : List Val) → Is the-row keys vs → getD (keys .at) 0 noItem ≡ firstKey keys
 first-key keys vs p = let n : length (keys .at) ≡ 16 = places-16 keys vs p in any-default _ _ (keys .at) 0 (omega arith)

@@ -1,6 +1,6 @@
 -- Lists of items as structs: how many places they have, and lists of the right shape. Assumes nothing.
-use mathlib.Core.Path.{_≡_, refl, sym}
-use mathlib.Core.Bool.{Bool, true, false}
+use mathlib.Core.Path.{_≡_, sym}
+use mathlib.Core.Bool.{true}
 use mathlib.Core.List.{List, []}
 use Prim.Native.Nat.{ℕ, _≤_}
 use native.Mathlib.Omega.{arith}
@@ -9,7 +9,8 @@ use lib.ListN.{length, drop, length-map, length-take}
 use mir.Val.{Val}
 use denote.Laws.{Is}
 use borrow.Author.Tests.{leb-true}
-use Rattle.lists.specs.Lists.{pick, all}
+use Rattle.lists.specs.Lists.{all}
+use Rattle.lists.proofs.Facts.{picks}
 use Rattle.lists.proofs.Padding.{padded-used, is-padded}
 use Rattle.item.specs.declared.Item.{Item}
 use Rattle.item.specs.declared.Kind.{Kind}
@@ -38,12 +39,6 @@ pub record Good (k : Kind) (l : Items) : Type 0 where
   pub few : l .count ≤ 16
   pub fit : all (itemFits k) (listed l) ≡ true
   pub rest : all isZero (drop (l .count) (l .at)) ≡ true
-
-picks : (b f z : Bool) → _≡_ {A = ℕ} (pick b (pick f (pick z 0 3) 3) 4) 0 → (b ≡ true) × ((f ≡ true) × (z ≡ true))
-picks true true true e = (refl, (refl, refl))
-picks true true false e = absurd (omega arith)
-picks true false z e = absurd (omega arith)
-picks false f z e = absurd (omega arith)
 
 pub good : (k : Kind) (l : Items) → shapeOf k l ≡ 0 → Good k l
 unfolding shapeOf

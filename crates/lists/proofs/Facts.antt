@@ -21,6 +21,13 @@ both-true false b e = clash (sym e)
 pub both-in : (a b : Bool) → a ≡ true → b ≡ true → both a b ≡ true
 both-in a b p q = rw (p, q)
 
+-- a shape without a fault: few enough, the used ones fit, the others are zero
+pub picks : (b f z : Bool) → _≡_ {A = ℕ} (pick b (pick f (pick z 0 3) 3) 4) 0 → (b ≡ true) × ((f ≡ true) × (z ≡ true))
+picks true true true e = (refl, (refl, refl))
+picks true true false e = absurd (omega arith)
+picks true false z e = absurd (omega arith)
+picks false f z e = absurd (omega arith)
+
 -- a search ends at a place exactly where some element has the property
 pick-is : (b : Bool) (k : ℕ) (f : Found) (m : Bool) → isAt f ≡ m → isAt (pick b (At k) f) ≡ either b m
 pick-is true k f m e = refl

@@ -5,7 +5,7 @@
 use mathlib.Core.Path.{_≡_, refl, sym, _∙_, ap}
 use mathlib.Core.List.{List, [], _∷_, _++_}
 use mathlib.Core.Bool.{Bool, true, false}
-use Prim.Native.Nat.{ℕ, suc, _<_, _≤_, _+_}
+use Prim.Native.Nat.{ℕ, zero, suc, _<_, _≤_, _+_}
 use native.Mathlib.Numerals.{add-one}
 use native.Mathlib.Omega.{arith}
 use lib.ListN.{length, drop, take, getD, length-take, drop-of-length-le}
@@ -14,6 +14,12 @@ use borrow.Author.Tests.{eq-eqb, ne-eqb}
 use Rattle.lists.specs.Lists.{pick, both, either, any, all, filter, firstFrom, sameNumbers}
 use Rattle.lists.specs.declared.Found.{Found}
 use Rattle.lists.specs.declared.Found.the-variants.{At, Nothing}
+
+-- an element that is there is the same under any default
+pub any-default : {A : Type 0} (d e : A) (xs : List A) (i : ℕ) → i < length xs → getD xs i d ≡ getD xs i e
+any-default d e [] i h = absurd (omega arith)
+any-default d e (x ∷ xs) zero h = refl
+any-default d e (x ∷ xs) (suc i) h = any-default d e xs i (omega arith)
 
 pub head-of : {A : Type 0} (d : A) (xs : List A) (i : ℕ) → i < length xs → drop i xs ≡ getD xs i d ∷ drop (i + 1) xs
 head-of d xs i h = rw (add-one i, drop-cons xs i d h)

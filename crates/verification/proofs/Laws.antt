@@ -18,7 +18,7 @@ use mir.Val.{Val}
 use denote.Laws.{Is}
 use Rattle.lists.specs.Lists.{pick, both, either, any, all, sameNumbers}
 use Rattle.lists.specs.declared.Found.the-variants.{At, Nothing}
-use Rattle.lists.proofs.Facts.{both-true, both-in, any-append, same-numbers}
+use Rattle.lists.proofs.Facts.{both-true, both-in, picks, any-append, same-numbers}
 use Rattle.lists.proofs.Padding.{is-padded}
 use Rattle.places.specs.Places.{setOf, withPlace}
 use Rattle.places.proofs.Laws.{with, with-set, set-same, set-none, either-false}
@@ -239,12 +239,6 @@ pub record Good (l : Sigers) : Type 0 where
   pub few : l .count ≤ 48
   pub fit : all ondexFits (signatures l) ≡ true
   pub rest : all zeroSiger (drop (l .count) (l .at)) ≡ true
-
-picks : (b f z : Bool) → _≡_ {A = ℕ} (pick b (pick f (pick z 0 3) 3) 4) 0 → (b ≡ true) × ((f ≡ true) × (z ≡ true))
-picks true true true e = (refl, (refl, refl))
-picks true true false e = absurd (omega arith)
-picks true false z e = absurd (omega arith)
-picks false f z e = absurd (omega arith)
 
 pub good : (l : Sigers) → shapeOf l ≡ 0 → Good l
 unfolding shapeOf
