@@ -161,14 +161,14 @@ module _ {A : Type 0} (f : ℕ → A) (w : ℕ) where
     unfolding manyOf
     many-got h k = rw (le-leb _ _ h, le-leb _ _ k)
 
+  -- nothing, nowhere
+  pub many-none : (max : ℕ) (s : List ℕ) → manyOf f w max s 0 0 ≡ []
+  many-none max s = many-got max s 0 0 (omega arith) (omega arith) ∙ list-none 0
+
 -- A field of w bytes, by its place and by its value: had by both where there is room, or refused by both.
 pub data Agree {A : Type 0} (w limit p : ℕ) (f : Parse ℕ) (g : Parse A) (v : A) : Type 0 where
   had : p + w ≤ limit → f ≡ got p (p + w) → g ≡ got v (p + w) → Agree w limit p f g v
   refused : (r : ℕ) → f ≡ bad r → g ≡ bad r → Agree w limit p f g v
-
-pub mapped-bind : {A B C : Type 0} (g : B → C) (p : Parse A) (k : A → ℕ → Parse B) → mapped g (bind p k) ≡ bind p (λ a n. mapped g (k a n))
-mapped-bind g (got a n) k = refl
-mapped-bind g (bad r) k = refl
 
 -- a field that is its own value, and one whose value is f of its place
 pub as-is : {A B C : Type 0} (g : B → C) (p : Parse A) (k : A → ℕ → Parse B) (l : A → ℕ → Parse C)
@@ -180,6 +180,12 @@ pub at-place : {A A′ B C : Type 0} (g : B → C) (f : A → A′) (p : Parse A
     → mapped f p ≡ v → ((a : A) (n : ℕ) → mapped g (k a n) ≡ l (f a) n) → mapped g (bind p k) ≡ bind v l
 at-place g f (got a n) v k l e h = h a n ∙ ap (λ (x : Parse _). bind x l) e
 at-place g f (bad r) v k l e h = ap (λ (x : Parse _). bind x l) e
+
+-- a group of fields within a chain is its fields, one after another
+pub flat : {A B C D : Type 0} (g : C → D) (p : Parse A) (f : A → ℕ → Parse B) (k : B → ℕ → Parse C) {x : Parse D}
+    → mapped g (bind p (λ a n. bind (f a n) k)) ≡ x → mapped g (bind (bind p f) k) ≡ x
+flat g (got a n) f k e = e
+flat g (bad r) f k e = e
 
 module _ {A : Type 0} (f : ℕ → Parse ℕ) (g : ℕ → Parse A) (v : ℕ → A) (w limit : ℕ) (h : (p : ℕ) → Agree w limit p (f p) (g p) (v p)) where
   -- one by its place is one by its value

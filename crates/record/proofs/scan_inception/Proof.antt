@@ -1,7 +1,8 @@
 use mathlib.Core.Path.{sym, _∙_, ap}
 use borrow.Author.Needs.{needs}
 use Rattle.format.specs.Parse.{bad}
-use Rattle.record.specs.Marks.{eventOf, bodyIs, headIs, refusalOfBody, refusalOfTail, tailIs, inceptionPlaces}
+use Rattle.parts.specs.Parts.{bodyIs, headIs}
+use Rattle.record.specs.Marks.{eventOf, refusalOfBody, refusalOfTail, tailIs, inceptionPlaces}
 use Rattle.event.specs.declared.Ilk.the-variants.{Inception}
 use Rattle.record.proofs.Laws.{inception-value, with-value}
 use Rattle.record.proofs.scan_inception.Statement.{statement}

@@ -1,7 +1,8 @@
 use mathlib.Core.Path.{sym, _∙_, ap}
 use borrow.Author.Needs.{needs}
 use Rattle.format.specs.Parse.{bad}
-use Rattle.record.specs.Marks.{eventOf, headIs, refusalOfTail, tailIs, interactionPlaces}
+use Rattle.parts.specs.Parts.{headIs}
+use Rattle.record.specs.Marks.{eventOf, refusalOfTail, tailIs, interactionPlaces}
 use Rattle.event.specs.declared.Ilk.the-variants.{Interaction}
 use Rattle.record.proofs.Laws.{interaction-value, with-value}
 use Rattle.record.proofs.scan_interaction.Statement.{statement}

@@ -1,7 +1,8 @@
 use mathlib.Core.Path.{sym, _∙_, ap}
 use borrow.Author.Needs.{needs}
 use Rattle.format.specs.Parse.{bad}
-use Rattle.record.specs.Marks.{eventOf, bodyIs, headIs, refusalOfBody, refusalOfTail, tailIs, rotationPlaces}
+use Rattle.parts.specs.Parts.{bodyIs, headIs}
+use Rattle.record.specs.Marks.{eventOf, refusalOfBody, refusalOfTail, tailIs, rotationPlaces}
 use Rattle.event.specs.declared.Ilk.the-variants.{Rotation}
 use Rattle.record.proofs.Laws.{rotation-value, with-value}
 use Rattle.record.proofs.scan_rotation.Statement.{statement}

@@ -4,7 +4,8 @@ use borrow.Author.Tests.{le-leb, lt-leb}
 use Rattle.format.specs.Parse.{bad}
 use Rattle.layout.specs.Records.{latestAt}
 use Rattle.cursor.specs.Cursor.{is8}
-use Rattle.record.specs.Marks.{stateOf, bodyIs, headIs, lastIs, refusalOfBody, snapshotPlaces}
+use Rattle.parts.specs.Parts.{bodyIs, headIs}
+use Rattle.record.specs.Marks.{stateOf, lastIs, refusalOfBody, snapshotPlaces}
 use Rattle.record.proofs.Laws.{snapshot-value, with-value}
 use Rattle.record.proofs.scan_snapshot.Statement.{statement}
 use Rattle.record.proofs.scan_snapshot.Tie as tie

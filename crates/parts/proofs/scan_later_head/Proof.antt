@@ -1,9 +1,9 @@
 use mathlib.Core.Path.{sym, _∙_, ap}
 use borrow.Author.Needs.{needs}
 use Rattle.field.specs.Field.{placeIs}
-use Rattle.record.specs.Marks.{headIs, laterHeadPlaces}
-use Rattle.record.proofs.scan_later_head.Statement.{statement}
-use Rattle.record.proofs.scan_later_head.Tie as tie
+use Rattle.parts.specs.Parts.{headIs, laterHeadPlaces}
+use Rattle.parts.proofs.scan_later_head.Statement.{statement}
+use Rattle.parts.proofs.scan_later_head.Tie as tie
 
 scan-first-head-requires : tie.Need-scan-first-head-requires
 scan-first-head-requires c κs = search needs

@@ -1,9 +1,9 @@
 use mathlib.Core.Path.{sym, _∙_, ap}
 use borrow.Author.Needs.{needs}
 use Rattle.format.specs.Parse.{bad}
-use Rattle.record.specs.Marks.{quorumIs, refusalOfQuorum, signersPlaces}
-use Rattle.record.proofs.scan_signers.Statement.{statement}
-use Rattle.record.proofs.scan_signers.Tie as tie
+use Rattle.parts.specs.Parts.{quorumIs, refusalOfQuorum, signersPlaces}
+use Rattle.parts.proofs.scan_signers.Statement.{statement}
+use Rattle.parts.proofs.scan_signers.Tie as tie
 
 scan-quorum-requires : tie.Need-scan-quorum-requires
 scan-quorum-requires c κs = search needs

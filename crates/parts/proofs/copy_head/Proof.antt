@@ -1,7 +1,7 @@
 use borrow.Author.Needs.{needs}
-use Rattle.record.proofs.Laws.{head-is}
-use Rattle.record.proofs.copy_head.Statement.{statement}
-use Rattle.record.proofs.copy_head.Tie as tie
+use Rattle.parts.proofs.Laws.{head-is}
+use Rattle.parts.proofs.copy_head.Statement.{statement}
+use Rattle.parts.proofs.copy_head.Tie as tie
 
 copy-item-requires : tie.Need-copy-item-requires
 copy-item-requires c κs = search needs

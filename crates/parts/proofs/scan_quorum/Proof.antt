@@ -3,9 +3,9 @@ use borrow.Author.Needs.{needs}
 use Rattle.format.specs.Parse.{bad}
 use Rattle.field.specs.Field.{spanIs}
 use Rattle.threshold_field.specs.ThresholdField.{markedIs}
-use Rattle.record.specs.Marks.{refusalOfMarked, refusalOfSpan, quorumPlaces}
-use Rattle.record.proofs.scan_quorum.Statement.{statement}
-use Rattle.record.proofs.scan_quorum.Tie as tie
+use Rattle.parts.specs.Parts.{refusalOfMarked, refusalOfSpan, quorumPlaces}
+use Rattle.parts.proofs.scan_quorum.Statement.{statement}
+use Rattle.parts.proofs.scan_quorum.Tie as tie
 
 scan-items-requires : tie.Need-scan-items-requires
 scan-items-requires c κs = search needs

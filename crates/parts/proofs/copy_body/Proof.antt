@@ -1,7 +1,7 @@
 use borrow.Author.Needs.{needs}
-use Rattle.record.proofs.Laws.{body-is}
-use Rattle.record.proofs.copy_body.Statement.{statement}
-use Rattle.record.proofs.copy_body.Tie as tie
+use Rattle.parts.proofs.Laws.{body-is}
+use Rattle.parts.proofs.copy_body.Statement.{statement}
+use Rattle.parts.proofs.copy_body.Tie as tie
 
 copy-authority-requires : tie.Need-copy-authority-requires
 copy-authority-requires c κs = search needs

@@ -3,9 +3,9 @@ use borrow.Author.Needs.{needs}
 use Rattle.format.specs.Parse.{bad}
 use Rattle.cursor.specs.Cursor.{is32}
 use Rattle.field.specs.Field.{spanIs}
-use Rattle.record.specs.Marks.{refusalOfSigners, refusalOfSpan, signersIs, rotationBodyPlaces}
-use Rattle.record.proofs.scan_rotation_body.Statement.{statement}
-use Rattle.record.proofs.scan_rotation_body.Tie as tie
+use Rattle.parts.specs.Parts.{refusalOfSigners, refusalOfSpan, signersIs, rotationBodyPlaces}
+use Rattle.parts.proofs.scan_rotation_body.Statement.{statement}
+use Rattle.parts.proofs.scan_rotation_body.Tie as tie
 
 scan-signers-requires : tie.Need-scan-signers-requires
 scan-signers-requires c κs = search needs

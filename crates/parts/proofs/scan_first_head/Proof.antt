@@ -1,9 +1,9 @@
 use mathlib.Core.Path.{sym, _∙_, ap}
 use borrow.Author.Needs.{needs}
 use Rattle.field.specs.Field.{placeIs, snIs}
-use Rattle.record.specs.Marks.{firstHeadPlaces}
-use Rattle.record.proofs.scan_first_head.Statement.{statement}
-use Rattle.record.proofs.scan_first_head.Tie as tie
+use Rattle.parts.specs.Parts.{firstHeadPlaces}
+use Rattle.parts.proofs.scan_first_head.Statement.{statement}
+use Rattle.parts.proofs.scan_first_head.Tie as tie
 
 scan-item-requires : tie.Need-scan-item-requires
 scan-item-requires c κs = search needs

@@ -1,7 +1,7 @@
 use borrow.Author.Needs.{needs}
-use Rattle.record.proofs.Laws.{commitment-is}
-use Rattle.record.proofs.copy_commitment.Statement.{statement}
-use Rattle.record.proofs.copy_commitment.Tie as tie
+use Rattle.parts.proofs.Laws.{commitment-is}
+use Rattle.parts.proofs.copy_commitment.Statement.{statement}
+use Rattle.parts.proofs.copy_commitment.Tie as tie
 
 copy-items-requires : tie.Need-copy-items-requires
 copy-items-requires c κs = search needs
