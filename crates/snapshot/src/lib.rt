@@ -1,0 +1,150 @@
+// Saving: the KS record of a held state, written over the start of a lent buffer.
+ghost use mathlib.Core.Path.{_≡_};
+ghost use mathlib.Core.List.{[], _∷_};
+ghost use Prim.Native.Nat.{_+_, _≤_, _<_};
+ghost use lib.ListN.{length, take};
+ghost use Rattle.snapshot.specs.Bytes.{be, wordsBytes, itemBytes, each, itemsBytes, counted, configBytes, weightBytes, thresholdBytes, Room, Wrote};
+ghost use Rattle.snapshot.specs.Saved.{pointBytes, groupBytes, headBytes, tailBytes, bodyBytes, saved};
+ghost use Rattle.threshold.specs.Threshold.{shapeOf};
+ghost use Rattle.config.specs.Config as configs;
+ghost use Rattle.shape.specs.State.{stateShape};
+use answer::Answer;
+use config::Config;
+use item::Item;
+use items::Items;
+use number::Number;
+use state::Holder;
+use state::KeyState;
+use threshold::Threshold;
+use weight::Weight;
+
+// Each `put` writes from a place on where its caller has room, and gives the place behind what it wrote.
+fn put_byte(buf: &mut [u8], at: usize, b: u8) -> usize
+    requires { ⌜ at < length (now buf) ⌝ }
+    ensures { λ r. ⌜ Wrote (b ∷ []) at (now (buf .entry)) r (now (buf .exit)) ⌝ }
+{
+    buf[at] = b;
+    at + 1
+}
+
+fn put_bytes(buf: &mut [u8], at: usize, src: &[u8]) -> usize
+    requires { ⌜ at + length (now src) ≤ length (now buf) ⌝ }
+    ensures { λ r. ⌜ Wrote (now (src .entry)) at (now (buf .entry)) r (now (buf .exit)) ⌝ }
+{
+    let mut i: usize = 0;
+    while i < src.len() {
+        buf[at + i] = src[i];
+        i += 1;
+    }
+    at + i
+}
+
+// "Numbers are big-endian": the last byte is the lowest.
+fn put_number(buf: &mut [u8], at: usize, width: usize, v: u64) -> usize
+    requires { ⌜ at + width ≤ length (now buf) ⌝ }
+    ensures { λ r. ⌜ Wrote (be width v) at (now (buf .entry)) r (now (buf .exit)) ⌝ }
+{
+    let mut x = v;
+    let mut i = width;
+    while 0 < i {
+        i = i - 1;
+        buf[at + i] = (x % 256) as u8;
+        x = x / 256;
+    }
+    at + width
+}
+
+fn put_words(buf: &mut [u8], at: usize, a: u64, b: u64) -> usize
+    requires { ⌜ Room (wordsBytes a b) at (now buf) ⌝ }
+    ensures { λ r. ⌜ Wrote (wordsBytes a b) at (now (buf .entry)) r (now (buf .exit)) ⌝ }
+{
+    let p = put_number(buf, at, 8, a);
+    put_number(buf, p, 8, b)
+}
+
+fn put_item(buf: &mut [u8], at: usize, x: Item) -> usize
+    requires { ⌜ Room (itemBytes x) at (now buf) ⌝ }
+    ensures { λ r. ⌜ Wrote (itemBytes x) at (now (buf .entry)) r (now (buf .exit)) ⌝ }
+{
+    let raw = x.raw;
+    let p = put_byte(buf, at, x.code);
+    put_bytes(buf, p, &raw)
+}
+
+fn put_items(buf: &mut [u8], at: usize, l: Items) -> usize
+    requires { ⌜ l .count ≤ 16 ⌝ }
+    requires { ⌜ Room (itemsBytes l) at (now buf) ⌝ }
+    ensures { λ r. ⌜ Wrote (itemsBytes l) at (now (buf .entry)) r (now (buf .exit)) ⌝ }
+{
+    let n = l.count;
+    let places = l.at;
+    let mut p = put_byte(buf, at, n as u8);
+    let mut i: usize = 0;
+    while i < n {
+        let x = places[i];
+        p = put_item(buf, p, x);
+        i += 1;
+    }
+    p
+}
+
+fn put_counted(buf: &mut [u8], at: usize, src: &[u8]) -> usize
+    requires { ⌜ length (now src) ≤ 16 ⌝ }
+    requires { ⌜ Room (counted (now src)) at (now buf) ⌝ }
+    ensures { λ r. ⌜ Wrote (counted (now (src .entry))) at (now (buf .entry)) r (now (buf .exit)) ⌝ }
+{
+    let n = src.len();
+    let p = put_byte(buf, at, n as u8);
+    put_bytes(buf, p, src)
+}
+
+fn put_weights(buf: &mut [u8], at: usize, weights: [Weight; 16], n: usize) -> usize
+    requires { ⌜ n ≤ 16 ⌝ }
+    requires { ⌜ Room (each weightBytes (take n weights)) at (now buf) ⌝ }
+    ensures { λ r. ⌜ Wrote (each weightBytes (take n weights)) at (now (buf .entry)) r (now (buf .exit)) ⌝ }
+{
+    let mut p = at;
+    let mut i: usize = 0;
+    while i < n {
+        let w = weights[i];
+        p = put_words(buf, p, w.num, w.den);
+        i += 1;
+    }
+    p
+}
+
+fn put_threshold(buf: &mut [u8], at: usize, t: Threshold) -> usize
+    requires { ⌜ shapeOf t ≡ 0 ⌝ }
+    requires { ⌜ Room (thresholdBytes t) at (now buf) ⌝ }
+    ensures { λ r. ⌜ Wrote (thresholdBytes t) at (now (buf .entry)) r (now (buf .exit)) ⌝ }
+{
+    if t.tag == 0 {
+        let p = put_byte(buf, at, 0);
+        return put_number(buf, p, 8, t.simple);
+    }
+    let n = t.clauses;
+    let sizes = t.sizes;
+    let weights = t.weights;
+    let total = threshold::weights_in(sizes, n);
+    let p = put_byte(buf, at, 1);
+    let q = put_counted(buf, p, &sizes[..n]);
+    put_weights(buf, q, weights, total)
+}
+
+fn put_config(buf: &mut [u8], at: usize, c: Config) -> usize
+    requires { ⌜ c .count ≤ 8 ⌝ }
+    requires { ⌜ Room (configBytes c) at (now buf) ⌝ }
+    ensures { λ r. ⌜ Wrote (configBytes c) at (now (buf .entry)) r (now (buf .exit)) ⌝ }
+{
+    let n = c.count;
+    let traits = c.traits;
+    put_counted(buf, at, &traits[..n])
+}
+
+fn put_point(buf: &mut [u8], at: usize, sn: Number, said: Item) -> usize
+    requires { ⌜ Room (pointBytes sn said) at (now buf) ⌝ }
+    ensures { λ r. ⌜ Wrote (pointBytes sn said) at (now (buf .entry)) r (now (buf .exit)) ⌝ }
+{
+    let p = put_words(buf, at, sn.high, sn.low);
+    put_item(buf, p, said)
+}
