@@ -1,7 +1,6 @@
 -- 27, 28 and 32 as sizes of sets of places. "27, 28: distinct counted. 32: valid, required." "Toad 0 reads no receipts."
 use Prim.Native.Nat.{ℕ}
 use mathlib.Core.List.{List, [], _∷_}
-use mathlib.Core.Bool.{Bool, true, false}
 use lib.Dec.{eqb, leb}
 use lib.ListN.{length}
 use Rattle.lists.specs.Lists.{pick}

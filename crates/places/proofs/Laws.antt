@@ -95,7 +95,7 @@ either-true : (x : Bool) → either x true ≡ true
 either-true true = refl
 either-true false = refl
 
-either-false : (x : Bool) → either x false ≡ x
+pub either-false : (x : Bool) → either x false ≡ x
 either-false true = refl
 either-false false = refl
 

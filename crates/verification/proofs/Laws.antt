@@ -1,7 +1,8 @@
 -- Signatures: which are no copies, the sets of places one signature at a time, and lists of the right shape. Assumes nothing.
---     within-at, within-none    what a place that was found, or not, says
---     counted-copy, counted-more, counted-all   the sets after one more place of the list, and at its end
---     places-48, packed-signatures   how many places a list has; one of the right shape is its signatures, packed
+--     within-at                what a place that was found says
+--     exposed-, counted-       the ways through the step; counted-copy, counted-more, counted-none: one more signature in a list
+--     next-, used-all, array-all   the same along an array, and the end of its used places
+--     places-48, good, packed-signatures   how many places a list has; one of the right shape is its signatures, packed
 use mathlib.Core.Path.{_≡_, refl, sym, ap, _∙_}
 use mathlib.Core.Bool.{Bool, true, false}
 use mathlib.Core.List.{List, [], _∷_, _++_, append-nil, append-assoc}
@@ -20,7 +21,7 @@ use Rattle.lists.specs.declared.Found.the-variants.{At, Nothing}
 use Rattle.lists.proofs.Facts.{both-true, both-in, any-append, same-numbers}
 use Rattle.lists.proofs.Padding.{is-padded}
 use Rattle.places.specs.Places.{setOf, withPlace}
-use Rattle.places.proofs.Laws.{with, with-set, set-same, set-none}
+use Rattle.places.proofs.Laws.{with, with-set, set-same, set-none, either-false}
 use Rattle.verification.specs.declared.Siger.{Siger}
 use Rattle.verification.specs.declared.Sigers.{Sigers}
 use Rattle.verification.specs.declared.Counted.{Counted}
@@ -37,20 +38,16 @@ pub places-48 : (l : Sigers) (vs : List Val) → Is the-row l vs → length (l .
 places-48 l vs p = simp length-map at (p .1 .1 .1 .0 .1 .0 .1)
 
 -- ---- tests
-pub both-left : (a b : Bool) → a ≡ false → both a b ≡ false
+both-left : (a b : Bool) → a ≡ false → both a b ≡ false
 both-left a b e = rw e
 
-pub both-right : (a b : Bool) → b ≡ false → both a b ≡ false
+both-right : (a b : Bool) → b ≡ false → both a b ≡ false
 both-right true b e = e
 both-right false b e = refl
 
 both-assoc : (a b c : Bool) → both a (both b c) ≡ both (both a b) c
 both-assoc true b c = refl
 both-assoc false b c = refl
-
-either-false : (x : Bool) → either x false ≡ x
-either-false true = refl
-either-false false = refl
 
 -- ---- a place within a list
 module _ (k n : ℕ) where
@@ -62,7 +59,7 @@ module _ (k n : ℕ) where
       by-test true e f = (let g : p ≡ k = cc in g, refl)
       by-test false e f = let z : _≡_ {A = ℕ} 0 1 = cc in absurd (omega arith)
 
-  pub within-none : placeWithin k n ≡ Nothing → ltb k n ≡ false
+  within-none : placeWithin k n ≡ Nothing → ltb k n ≡ false
   unfolding placeWithin
   within-none = by-test (ltb k n)
     where

@@ -2,7 +2,7 @@
 ghost use mathlib.Core.Path.{_≡_};
 ghost use lib.ListN.{drop};
 ghost use Rattle.lists.specs.Lists.{all, sameNumbers};
-ghost use Rattle.verification.specs.Verification.{signatures, sameFlag, sameWire, keyPlace, commitmentPlace};
+ghost use Rattle.verification.specs.Verification.{signatures, sameFlag, sameWire, placeWithin, keyPlace, commitmentPlace};
 ghost use Rattle.verification.specs.Verification.{exposedWith, countedWith, countedOf, noSiger, ondexFits, zeroSiger, shapeOf};
 use lists::Found;
 
@@ -75,26 +75,27 @@ pub fn same_wire(a: Siger, b: Siger) -> bool
     same_raw(x, y)
 }
 
-pub fn key_place(index: Index, keys: usize) -> Found
-    ensures { λ r. ⌜ r ≡ keyPlace index keys ⌝ }
+fn within(place: u32, n: usize) -> Found
+    ensures { λ r. ⌜ r ≡ placeWithin place n ⌝ }
 {
-    let place = index.0 as usize;
-    if place < keys {
-        Found::At(place)
+    let at = place as usize;
+    if at < n {
+        Found::At(at)
     } else {
         Found::Nothing
     }
 }
 
+pub fn key_place(index: Index, keys: usize) -> Found
+    ensures { λ r. ⌜ r ≡ keyPlace index keys ⌝ }
+{
+    within(index.0, keys)
+}
+
 pub fn commitment_place(ondex: Ondex, next: usize) -> Found
     ensures { λ r. ⌜ r ≡ commitmentPlace ondex next ⌝ }
 {
-    let place = ondex.0 as usize;
-    if place < next {
-        Found::At(place)
-    } else {
-        Found::Nothing
-    }
+    within(ondex.0, next)
 }
 
 // The exposed places with that of a verified signature, where it has an ondex within the commitments and its digest agrees.
