@@ -1,1 +1,3 @@
+pub mod Laws
 pub mod Real
+pub mod Round

@@ -3,10 +3,9 @@ ghost use mathlib.Core.Path.{_≡_};
 ghost use mathlib.Core.List.{[], _∷_};
 ghost use Prim.Native.Nat.{_+_, _≤_, _<_};
 ghost use lib.ListN.{length, take};
-ghost use Rattle.snapshot.specs.Bytes.{be, wordsBytes, itemBytes, each, itemsBytes, counted, configBytes, weightBytes, thresholdBytes, Room, Wrote};
-ghost use Rattle.snapshot.specs.Saved.{pointBytes, groupBytes, headBytes, tailBytes, bodyBytes, saved};
+ghost use Rattle.snapshot.specs.Bytes.{be, wordsBytes, itemBytes, each, itemsBytes, counted, configBytes, weightBytes, thresholdBytes, flagByte, Room, Wrote};
+ghost use Rattle.snapshot.specs.Saved.{pointBytes, groupBytes, headBytes, tailBytes, bodyBytes, encoded, saved};
 ghost use Rattle.threshold.specs.Threshold.{shapeOf};
-ghost use Rattle.config.specs.Config as configs;
 ghost use Rattle.shape.specs.State.{stateShape};
 use answer::Answer;
 use config::Config;
@@ -113,38 +112,3 @@ fn put_weights(buf: &mut [u8], at: usize, weights: [Weight; 16], n: usize) -> us
     p
 }
 
-fn put_threshold(buf: &mut [u8], at: usize, t: Threshold) -> usize
-    requires { ⌜ shapeOf t ≡ 0 ⌝ }
-    requires { ⌜ Room (thresholdBytes t) at (now buf) ⌝ }
-    ensures { λ r. ⌜ Wrote (thresholdBytes t) at (now (buf .entry)) r (now (buf .exit)) ⌝ }
-{
-    if t.tag == 0 {
-        let p = put_byte(buf, at, 0);
-        return put_number(buf, p, 8, t.simple);
-    }
-    let n = t.clauses;
-    let sizes = t.sizes;
-    let weights = t.weights;
-    let total = threshold::weights_in(sizes, n);
-    let p = put_byte(buf, at, 1);
-    let q = put_counted(buf, p, &sizes[..n]);
-    put_weights(buf, q, weights, total)
-}
-
-fn put_config(buf: &mut [u8], at: usize, c: Config) -> usize
-    requires { ⌜ c .count ≤ 8 ⌝ }
-    requires { ⌜ Room (configBytes c) at (now buf) ⌝ }
-    ensures { λ r. ⌜ Wrote (configBytes c) at (now (buf .entry)) r (now (buf .exit)) ⌝ }
-{
-    let n = c.count;
-    let traits = c.traits;
-    put_counted(buf, at, &traits[..n])
-}
-
-fn put_point(buf: &mut [u8], at: usize, sn: Number, said: Item) -> usize
-    requires { ⌜ Room (pointBytes sn said) at (now buf) ⌝ }
-    ensures { λ r. ⌜ Wrote (pointBytes sn said) at (now (buf .entry)) r (now (buf .exit)) ⌝ }
-{
-    let p = put_words(buf, at, sn.high, sn.low);
-    put_item(buf, p, said)
-}
