@@ -10,7 +10,7 @@ use native.Mathlib.Numerals.{add-one}
 use native.Mathlib.Omega.{arith}
 use lib.ListN.{length, take, drop, getD, set, length-append, length-take, length-drop, take-append-drop, drop-of-length-le}
 use lib.Seq.{take-set-le, drop-cons, set-split, length-take-le, drop-drop, drop-append-add, drop-at, take-suc-set, take-append-seam, drop-set-lt}
-use Rattle.lists.proofs.Walks.{head-of}
+use Rattle.lists.proofs.Walks.{head-of, head-at, used-end}
 use Rattle.snapshot.specs.Bytes.{be, each, over, Wrote}
 
 pub length-be : (w v : ℕ) → length (be w v) ≡ w
@@ -137,12 +137,23 @@ be-end at width v b₀ b i x h e =
     let j : i ≡ 0 = omega arith in
     record { behind = ap (λ (n : ℕ). at + n) (sym (length-be width v)); bytes = sym (e ∙ rw j (over-none at b)) }
 
--- ---- As a loop writes values: those from i on are to come.
-module _ {A : Type 0} (f : A → List ℕ) (vs : List A) (i : ℕ) where
-  pub each-head : (v : A) → drop i vs ≡ v ∷ drop (i + 1) vs → each f (drop i vs) ≡ f v ++ each f (drop (i + 1) vs)
-  unfolding each
-  each-head v e = rw e
+-- ---- As a loop writes the values of an array's used part: those from i on are to come.
+module _ {A : Type 0} (f : A → List ℕ) (places : List A) (n i : ℕ) where
+  abbrev pub From : List ℕ
+  From = each f (drop i (take n places))
 
-  pub each-end : length vs ≤ i → each f (drop i vs) ≡ []
-  unfolding each
-  each-end h = rw (drop-of-length-le vs h)
+  module _ {all b₀ b : List ℕ} {at p : ℕ} (l : Left all at b₀ From p b) where
+    each-left : (d : A) → i < n → i < length places → Left all at b₀ (f (getD places i d) ++ each f (drop (i + 1) (take n places))) p b
+    unfolding each
+    each-left d hn hi = rw (head-at d places n i hn hi) at l
+
+    pub each-fits : (d : A) → i < n → i < length places → p + length (f (getD places i d)) ≤ length b
+    each-fits d hn hi = fits (f (getD places i d)) (each f (drop (i + 1) (take n places))) (each-left d hn hi)
+
+    pub each-more : {b' : List ℕ} {q : ℕ} (d : A) → i < n → i < length places → Wrote (f (getD places i d)) p b q b'
+        → Left all at b₀ (each f (drop (i + 1) (take n places))) q b'
+    each-more d hn hi w = more (f (getD places i d)) (each f (drop (i + 1) (take n places))) (each-left d hn hi) w
+
+    pub each-done : n ≤ i → Wrote all at b₀ p b
+    unfolding each
+    each-done h = done From (rw (drop-of-length-le (take n places) (used-end places n i h))) l

@@ -30,5 +30,3 @@ raws-32 l vs p = items-each (l .at) (p .1 .1 .1 .0 .0) (p .1 .1 .1 .0 .1 .1)
 tt1 : (s : KeyState) (vs : List Val) → Is state.the-row s vs → length (s .prefix .raw) ≡ 32
 tt1 s vs p = raw-32 (s .prefix) _ (p .1 .1 .0)
 
-tt2 : (s : KeyState) (vs : List Val) → Is state.the-row s vs → s .latest < 256
-tt2 s vs p = p .1 .1 .1 .1 .1 .0

@@ -19,7 +19,7 @@ use weight::Weight;
 
 // Each `put` writes from a place on where its caller has room, and gives the place behind what it wrote.
 fn put_byte(buf: &mut [u8], at: usize, b: u8) -> usize
-    requires { ⌜ at < length (now buf) ⌝ }
+    requires { ⌜ Room (b ∷ []) at (now buf) ⌝ }
     ensures { λ r. ⌜ Wrote (b ∷ []) at (now (buf .entry)) r (now (buf .exit)) ⌝ }
 {
     buf[at] = b;
@@ -27,7 +27,7 @@ fn put_byte(buf: &mut [u8], at: usize, b: u8) -> usize
 }
 
 fn put_bytes(buf: &mut [u8], at: usize, src: &[u8]) -> usize
-    requires { ⌜ at + length (now src) ≤ length (now buf) ⌝ }
+    requires { ⌜ Room (now src) at (now buf) ⌝ }
     ensures { λ r. ⌜ Wrote (now (src .entry)) at (now (buf .entry)) r (now (buf .exit)) ⌝ }
 {
     let mut i: usize = 0;
@@ -40,7 +40,7 @@ fn put_bytes(buf: &mut [u8], at: usize, src: &[u8]) -> usize
 
 // "Numbers are big-endian": the last byte is the lowest.
 fn put_number(buf: &mut [u8], at: usize, width: usize, v: u64) -> usize
-    requires { ⌜ at + width ≤ length (now buf) ⌝ }
+    requires { ⌜ Room (be width v) at (now buf) ⌝ }
     ensures { λ r. ⌜ Wrote (be width v) at (now (buf .entry)) r (now (buf .exit)) ⌝ }
 {
     let mut x = v;
@@ -110,5 +110,106 @@ fn put_weights(buf: &mut [u8], at: usize, weights: [Weight; 16], n: usize) -> us
         i += 1;
     }
     p
+}
+
+fn put_threshold(buf: &mut [u8], at: usize, t: Threshold) -> usize
+    requires { ⌜ shapeOf t ≡ 0 ⌝ }
+    requires { ⌜ Room (thresholdBytes t) at (now buf) ⌝ }
+    ensures { λ r. ⌜ Wrote (thresholdBytes t) at (now (buf .entry)) r (now (buf .exit)) ⌝ }
+{
+    if t.tag == 0 {
+        let p = put_byte(buf, at, 0);
+        return put_number(buf, p, 8, t.simple);
+    }
+    let n = t.clauses;
+    let sizes = t.sizes;
+    let weights = t.weights;
+    let total = threshold::weights_in(sizes, n);
+    let p = put_byte(buf, at, 1);
+    let q = put_counted(buf, p, &sizes[..n]);
+    put_weights(buf, q, weights, total)
+}
+
+fn put_config(buf: &mut [u8], at: usize, c: Config) -> usize
+    requires { ⌜ c .count ≤ 8 ⌝ }
+    requires { ⌜ Room (configBytes c) at (now buf) ⌝ }
+    ensures { λ r. ⌜ Wrote (configBytes c) at (now (buf .entry)) r (now (buf .exit)) ⌝ }
+{
+    let n = c.count;
+    let traits = c.traits;
+    put_counted(buf, at, &traits[..n])
+}
+
+fn put_point(buf: &mut [u8], at: usize, sn: Number, said: Item) -> usize
+    requires { ⌜ Room (pointBytes sn said) at (now buf) ⌝ }
+    ensures { λ r. ⌜ Wrote (pointBytes sn said) at (now (buf .entry)) r (now (buf .exit)) ⌝ }
+{
+    let p = put_words(buf, at, sn.high, sn.low);
+    put_item(buf, p, said)
+}
+
+fn put_group(buf: &mut [u8], at: usize, l: Items, t: Threshold) -> usize
+    requires { ⌜ l .count ≤ 16 ⌝ }
+    requires { ⌜ shapeOf t ≡ 0 ⌝ }
+    requires { ⌜ Room (groupBytes l t) at (now buf) ⌝ }
+    ensures { λ r. ⌜ Wrote (groupBytes l t) at (now (buf .entry)) r (now (buf .exit)) ⌝ }
+{
+    let p = put_items(buf, at, l);
+    put_threshold(buf, p, t)
+}
+
+fn put_head(buf: &mut [u8], at: usize, s: KeyState) -> usize
+    requires { ⌜ Room (headBytes s) at (now buf) ⌝ }
+    ensures { λ r. ⌜ Wrote (headBytes s) at (now (buf .entry)) r (now (buf .exit)) ⌝ }
+{
+    let prefix = s.prefix;
+    let sn = s.sn;
+    let said = s.said;
+    let p = put_item(buf, at, prefix);
+    put_point(buf, p, sn, said)
+}
+
+fn flag_byte(b: bool) -> u8
+    ensures { λ r. ⌜ r ≡ flagByte b ⌝ }
+{
+    if b { 1 } else { 0 }
+}
+
+fn put_tail(buf: &mut [u8], at: usize, s: KeyState) -> usize
+    requires { ⌜ stateShape s ≡ 0 ⌝ }
+    requires { ⌜ Room (tailBytes s) at (now buf) ⌝ }
+    ensures { λ r. ⌜ Wrote (tailBytes s) at (now (buf .entry)) r (now (buf .exit)) ⌝ }
+{
+    let witnessing = s.witnessing;
+    let witnesses = witnessing.witnesses;
+    let toad = witnessing.toad;
+    let config = s.config;
+    let last = s.last;
+    let sn = last.sn;
+    let said = last.said;
+    let flag = flag_byte(s.transferable);
+    let p = put_items(buf, at, witnesses);
+    let q = put_number(buf, p, 4, toad as u64);
+    let r = put_config(buf, q, config);
+    let e = put_byte(buf, r, flag);
+    put_point(buf, e, sn, said)
+}
+
+fn put_body(buf: &mut [u8], at: usize, s: KeyState) -> usize
+    requires { ⌜ stateShape s ≡ 0 ⌝ }
+    requires { ⌜ Room (bodyBytes s) at (now buf) ⌝ }
+    ensures { λ r. ⌜ Wrote (bodyBytes s) at (now (buf .entry)) r (now (buf .exit)) ⌝ }
+{
+    let own = s.authority;
+    let keys = own.keys;
+    let own_threshold = own.threshold;
+    let commitment = s.commitment;
+    let next = commitment.next;
+    let next_threshold = commitment.threshold;
+    let p = put_head(buf, at, s);
+    let q = put_byte(buf, p, s.latest);
+    let r = put_group(buf, q, keys, own_threshold);
+    let e = put_group(buf, r, next, next_threshold);
+    put_tail(buf, e, s)
 }
 

@@ -1,21 +1,21 @@
 use mathlib.Core.Path.{_≡_, refl, sym, _∙_, ap}
 use borrow.Author.Needs.{needs}
-use Prim.Native.Nat.{_≤_}
+use Prim.Native.Nat.{_+_, _≤_}
 use native.Mathlib.Omega.{arith}
 use lib.ListN.{length}
 use Rattle.snapshot.specs.Bytes.{be, over}
-use Rattle.snapshot.proofs.Laws.{be-less, be-end}
+use Rattle.snapshot.proofs.Laws.{length-be, be-less, be-end}
 use Rattle.snapshot.proofs.put_number.Statement.{statement}
 use Rattle.snapshot.proofs.put_number.Tie as tie
 
 abbrev Inv-loop : tie.InvT-loop
-Inv-loop buf₀ at width v x₀ i₀ buf x i = (i ≤ width) × (length buf ≡ length buf₀) × (over at (be width v) buf₀ ≡ over at (be i x) buf)
+Inv-loop buf₀ at width v x₀ i₀ buf x i = (i ≤ width) × (at + width ≤ length buf) × (length buf ≡ length buf₀) × (over at (be width v) buf₀ ≡ over at (be i x) buf)
 
 abbrev μ-loop : tie.MeasureT-loop
 μ-loop buf₀ at width v x₀ i₀ buf x i = i
 
 loop-holds : tie.Need-loop-holds Inv-loop μ-loop
-loop-holds c = search needs
+loop-holds c = (search needs, rw length-be at (c .pre), search needs, search needs)
 
 sub-i : tie.Need-sub-i Inv-loop μ-loop
 sub-i c = search needs
@@ -35,7 +35,7 @@ loop-less c = search needs
 loop-again : tie.Need-loop-again Inv-loop μ-loop
 loop-again c =
     let l = c .before in
-    (search needs, search needs, be-less _ _ _ (l .loop .i) (l .loop .x) (omega arith) (omega arith) (l .loop .inv .2))
+    (search needs, search needs, search needs, be-less _ _ _ (l .loop .i) (l .loop .x) (omega arith) (omega arith) (l .loop .inv .3))
 
 add-result : tie.Need-add-result Inv-loop μ-loop
 add-result c = search needs
@@ -46,7 +46,7 @@ same-length c = search needs
 returns : tie.Need-returns Inv-loop μ-loop
 returns c =
     let l = c .before in
-    be-end _ _ _ _ _ (l .loop .i) (l .loop .x) (omega arith) (l .loop .inv .2)
+    be-end _ _ _ _ _ (l .loop .i) (l .loop .x) (omega arith) (l .loop .inv .3)
 
 pub put-number-spec : {M : Type 1} → statement M
 put-number-spec =
