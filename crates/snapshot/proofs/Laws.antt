@@ -11,7 +11,10 @@ use native.Mathlib.Omega.{arith}
 use lib.ListN.{length, take, drop, getD, set, length-append, length-take, length-drop, take-append-drop, drop-of-length-le}
 use lib.Seq.{take-set-le, drop-cons, set-split, length-take-le, drop-drop, drop-append-add, drop-at, take-suc-set, take-append-seam, drop-set-lt}
 use Rattle.lists.proofs.Walks.{head-of, head-at, used-end}
-use Rattle.snapshot.specs.Bytes.{be, each, over, Wrote}
+use borrow.Author.Tests.{eq-eqb, ne-eqb}
+use Rattle.threshold.specs.declared.Threshold.{Threshold}
+use Rattle.threshold.specs.Threshold.{sizesOf, weightsIn}
+use Rattle.snapshot.specs.Bytes.{be, each, counted, weightBytes, thresholdBytes, over, Wrote}
 
 pub length-be : (w v : ℕ) → length (be w v) ≡ w
 unfolding be
@@ -157,3 +160,14 @@ module _ {A : Type 0} (f : A → List ℕ) (places : List A) (n i : ℕ) where
     pub each-done : n ≤ i → Wrote all at b₀ p b
     unfolding each
     each-done h = done From (rw (drop-of-length-le (take n places) (used-end places n i h))) l
+
+-- ---- the bytes of a threshold, by its tag; `total` is how many weights there are
+module _ (t : Threshold) where
+  pub simple-bytes : t .tag ≡ 0 → thresholdBytes t ≡ (0 ∷ []) ++ be 8 (t .simple)
+  unfolding thresholdBytes
+  simple-bytes h = rw (eq-eqb (t .tag) 0 h)
+
+  pub weighted-bytes : (total : ℕ) → (t .tag ≡ 0 → ⊥) → total ≡ weightsIn t
+      → thresholdBytes t ≡ (1 ∷ []) ++ (counted (sizesOf t) ++ each weightBytes (take total (t .weights)))
+  unfolding thresholdBytes
+  weighted-bytes total h e = rw (ne-eqb (t .tag) 0 h, e)

@@ -11,6 +11,8 @@ use denote.Array.{each}
 use Rattle.item.specs.declared.Item.{Item}
 use Rattle.items.specs.declared.Items.{Items}
 use Rattle.state.specs.declared.KeyState.{KeyState}
+use Rattle.threshold.specs.declared.Threshold.{Threshold}
+use Rattle.threshold.proofs.Threshold as threshold
 use Rattle.item.proofs.Item as item
 use Rattle.items.proofs.Items as items
 use Rattle.state.proofs.KeyState as state
@@ -27,6 +29,5 @@ items-each (x ∷ xs) (u ∷ us) s = (raw-32 x (u ∷ []) (s .0), items-each xs 
 pub raws-32 : (l : Items) (vs : List Val) → Is items.the-row l vs → Each (λ x. length (x .raw) ≡ 32) (l .at)
 raws-32 l vs p = items-each (l .at) (p .1 .1 .1 .0 .0) (p .1 .1 .1 .0 .1 .1)
 
-tt1 : (s : KeyState) (vs : List Val) → Is state.the-row s vs → length (s .prefix .raw) ≡ 32
-tt1 s vs p = raw-32 (s .prefix) _ (p .1 .1 .0)
-
+pub sizes-16 : (t : Threshold) (vs : List Val) → Is threshold.the-row t vs → length (t .sizes) ≡ 16
+sizes-16 t vs p = simp length-map at (p .1 .1 .1 .1 .1 .0 .1 .0 .1)

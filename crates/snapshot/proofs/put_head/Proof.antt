@@ -1,19 +1,40 @@
 use mathlib.Core.Path.{_≡_, refl, sym, _∙_, ap}
 use borrow.Author.Needs.{needs}
+use mathlib.Core.List.{[], _∷_, _++_}
+use Rattle.snapshot.specs.Bytes.{itemBytes}
+use Rattle.snapshot.specs.Saved.{pointBytes, headBytes}
+use Rattle.snapshot.proofs.Laws.{begin, fits, more, last}
 use Rattle.snapshot.proofs.put_head.Statement.{statement}
 use Rattle.snapshot.proofs.put_head.Tie as tie
 
 put-item-requires : tie.Need-put-item-requires
-put-item-requires c κs = search needs
+unfolding headBytes
+put-item-requires c κs =
+    let s = c .before .before .before .before .before in
+    let a = s .args in
+    let l0 = begin (headBytes (a .s)) (a .at) (a .buf .now) (s .pre) in
+    fits (itemBytes (a .s .prefix)) (pointBytes (a .s .sn) (a .s .said)) l0
 
 put-point-requires : tie.Need-put-point-requires
-put-point-requires c κs = search needs
+unfolding headBytes
+put-point-requires c κs =
+    let s = c .before .before .before .before .before .before .before .before .before in
+    let a = s .args in
+    let l0 = begin (headBytes (a .s)) (a .at) (a .buf .now) (s .pre) in
+    let l1 = more (itemBytes (a .s .prefix)) (pointBytes (a .s .sn) (a .s .said)) l0 (c .before .before .before .put-item .ensures) in
+    l1 .room
 
 same-length : tie.Need-same-length
 same-length c = search needs
 
 returns : tie.Need-returns
-returns c = search needs
+unfolding headBytes
+returns c =
+    let s = c .before .before .before .before .before .before .before .before .before .before .before .before in
+    let a = s .args in
+    let l0 = begin (headBytes (a .s)) (a .at) (a .buf .now) (s .pre) in
+    let l1 = more (itemBytes (a .s .prefix)) (pointBytes (a .s .sn) (a .s .said)) l0 (c .before .before .before .before .before .before .put-item .ensures) in
+    last (pointBytes (a .s .sn) (a .s .said)) l1 (c .before .before .put-point .ensures)
 
 pub put-head-spec : {M : Type 1} → statement M
 put-head-spec = tie.close (tie.spec put-item-requires put-point-requires same-length returns)
