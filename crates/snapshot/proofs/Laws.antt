@@ -71,6 +71,9 @@ over-over at xs ys b h =
 pub byte-wrote : (at y : ℕ) (b : List ℕ) → at < length b → Wrote (y ∷ []) at b (at + 1) (set b at y)
 byte-wrote at y b h = record { behind = refl; bytes = sym (over-first at y [] b h ∙ over-none (at + 1) (set b at y)) }
 
+pub same-bytes : {xs ys b b' : List ℕ} {at q : ℕ} → xs ≡ ys → Wrote xs at b q b' → Wrote ys at b q b'
+same-bytes e w = rw e at w
+
 -- ---- All of `all` is to be written from `at` on over b₀; what is left of it goes from p on over b.
 pub record Left (all : List ℕ) (at : ℕ) (b₀ : List ℕ) (rest : List ℕ) (p : ℕ) (b : List ℕ) : Type 0 where
   pub is : over at all b₀ ≡ over p rest b

@@ -31,3 +31,6 @@ raws-32 l vs p = items-each (l .at) (p .1 .1 .1 .0 .0) (p .1 .1 .1 .0 .1 .1)
 
 pub sizes-16 : (t : Threshold) (vs : List Val) → Is threshold.the-row t vs → length (t .sizes) ≡ 16
 sizes-16 t vs p = simp length-map at (p .1 .1 .1 .1 .1 .0 .1 .0 .1)
+
+pub toad-32 : (s : KeyState) (vs : List Val) → Is state.the-row s vs → s .witnessing .toad < 2 ^ 32
+toad-32 s vs p = p .1 .1 .1 .1 .1 .1 .1 .1 .0 .1 .1 .1 .0 .1

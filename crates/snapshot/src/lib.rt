@@ -169,3 +169,47 @@ fn put_head(buf: &mut [u8], at: usize, s: KeyState) -> usize
     put_point(buf, p, sn, said)
 }
 
+fn flag_byte(b: bool) -> u8
+    ensures { λ r. ⌜ r ≡ flagByte b ⌝ }
+{
+    if b { 1 } else { 0 }
+}
+
+fn put_tail(buf: &mut [u8], at: usize, s: KeyState) -> usize
+    requires { ⌜ stateShape s ≡ 0 ⌝ }
+    requires { ⌜ Room (tailBytes s) at (now buf) ⌝ }
+    ensures { λ r. ⌜ Wrote (tailBytes s) at (now (buf .entry)) r (now (buf .exit)) ⌝ }
+{
+    let witnessing = s.witnessing;
+    let witnesses = witnessing.witnesses;
+    let toad = witnessing.toad;
+    let config = s.config;
+    let last = s.last;
+    let sn = last.sn;
+    let said = last.said;
+    let flag = flag_byte(s.transferable);
+    let p = put_items(buf, at, witnesses);
+    let q = put_number(buf, p, 4, toad as u64);
+    let r = put_config(buf, q, config);
+    let e = put_byte(buf, r, flag);
+    put_point(buf, e, sn, said)
+}
+
+fn put_body(buf: &mut [u8], at: usize, s: KeyState) -> usize
+    requires { ⌜ stateShape s ≡ 0 ⌝ }
+    requires { ⌜ Room (bodyBytes s) at (now buf) ⌝ }
+    ensures { λ r. ⌜ Wrote (bodyBytes s) at (now (buf .entry)) r (now (buf .exit)) ⌝ }
+{
+    let own = s.authority;
+    let keys = own.keys;
+    let own_threshold = own.threshold;
+    let commitment = s.commitment;
+    let next = commitment.next;
+    let next_threshold = commitment.threshold;
+    let p = put_head(buf, at, s);
+    let q = put_byte(buf, p, s.latest);
+    let r = put_group(buf, q, keys, own_threshold);
+    let e = put_group(buf, r, next, next_threshold);
+    put_tail(buf, e, s)
+}
+

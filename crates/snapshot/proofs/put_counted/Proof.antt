@@ -16,7 +16,7 @@ put-byte-requires c κs =
     let s = c .before .before .before in
     let a = s .args in
     let l0 = begin (counted (a .src .now)) (a .at) (a .buf .now) (s .pre .1) in
-    fits (length (a .src .now) ∷ []) (a .src .now) l0
+    fits (length (a .src .now) ∷ []) _ l0
 
 put-bytes-requires : tie.Need-put-bytes-requires
 unfolding counted
@@ -24,7 +24,7 @@ put-bytes-requires c κs =
     let s = c .before .before .before .before .before .before .before in
     let a = s .args in
     let l0 = begin (counted (a .src .now)) (a .at) (a .buf .now) (s .pre .1) in
-    let l1 = more (length (a .src .now) ∷ []) (a .src .now) l0 (c .before .before .before .put-byte .ensures) in
+    let l1 = more _ _ l0 (c .before .before .before .put-byte .ensures) in
     l1 .room
 
 same-length : tie.Need-same-length
@@ -36,8 +36,8 @@ returns c =
     let s = c .before .before .before .before .before .before .before .before .before .before in
     let a = s .args in
     let l0 = begin (counted (a .src .now)) (a .at) (a .buf .now) (s .pre .1) in
-    let l1 = more (length (a .src .now) ∷ []) (a .src .now) l0 (c .before .before .before .before .before .before .put-byte .ensures) in
-    last (a .src .now) l1 (c .before .before .put-bytes .ensures)
+    let l1 = more _ _ l0 (c .before .before .before .before .before .before .put-byte .ensures) in
+    last _ l1 (c .before .before .put-bytes .ensures)
 
 pub put-counted-spec : {M : Type 1} → statement M
 put-counted-spec =

@@ -13,7 +13,7 @@ put-items-requires c κs =
     let s = c .before .before in
     let a = s .args in
     let l0 = begin (groupBytes (a .l) (a .t)) (a .at) (a .buf .now) (s .pre .1 .1) in
-    (s .pre .0, fits (itemsBytes (a .l)) (thresholdBytes (a .t)) l0)
+    (s .pre .0, fits (itemsBytes (a .l)) _ l0)
 
 put-threshold-requires : tie.Need-put-threshold-requires
 unfolding groupBytes
@@ -21,7 +21,7 @@ put-threshold-requires c κs =
     let s = c .before .before .before .before .before .before in
     let a = s .args in
     let l0 = begin (groupBytes (a .l) (a .t)) (a .at) (a .buf .now) (s .pre .1 .1) in
-    let l1 = more (itemsBytes (a .l)) (thresholdBytes (a .t)) l0 (c .before .before .before .put-items .ensures) in
+    let l1 = more _ _ l0 (c .before .before .before .put-items .ensures) in
     (s .pre .1 .0, l1 .room)
 
 same-length : tie.Need-same-length
@@ -33,8 +33,8 @@ returns c =
     let s = c .before .before .before .before .before .before .before .before .before in
     let a = s .args in
     let l0 = begin (groupBytes (a .l) (a .t)) (a .at) (a .buf .now) (s .pre .1 .1) in
-    let l1 = more (itemsBytes (a .l)) (thresholdBytes (a .t)) l0 (c .before .before .before .before .before .before .put-items .ensures) in
-    last (thresholdBytes (a .t)) l1 (c .before .before .put-threshold .ensures)
+    let l1 = more _ _ l0 (c .before .before .before .before .before .before .put-items .ensures) in
+    last _ l1 (c .before .before .put-threshold .ensures)
 
 pub put-group-spec : {M : Type 1} → statement M
 put-group-spec = tie.close (tie.spec put-items-requires put-threshold-requires same-length returns)

@@ -13,7 +13,7 @@ put-item-requires c κs =
     let s = c .before .before .before .before .before in
     let a = s .args in
     let l0 = begin (headBytes (a .s)) (a .at) (a .buf .now) (s .pre) in
-    fits (itemBytes (a .s .prefix)) (pointBytes (a .s .sn) (a .s .said)) l0
+    fits (itemBytes (a .s .prefix)) _ l0
 
 put-point-requires : tie.Need-put-point-requires
 unfolding headBytes
@@ -21,7 +21,7 @@ put-point-requires c κs =
     let s = c .before .before .before .before .before .before .before .before .before in
     let a = s .args in
     let l0 = begin (headBytes (a .s)) (a .at) (a .buf .now) (s .pre) in
-    let l1 = more (itemBytes (a .s .prefix)) (pointBytes (a .s .sn) (a .s .said)) l0 (c .before .before .before .put-item .ensures) in
+    let l1 = more _ _ l0 (c .before .before .before .put-item .ensures) in
     l1 .room
 
 same-length : tie.Need-same-length
@@ -33,8 +33,8 @@ returns c =
     let s = c .before .before .before .before .before .before .before .before .before .before .before .before in
     let a = s .args in
     let l0 = begin (headBytes (a .s)) (a .at) (a .buf .now) (s .pre) in
-    let l1 = more (itemBytes (a .s .prefix)) (pointBytes (a .s .sn) (a .s .said)) l0 (c .before .before .before .before .before .before .put-item .ensures) in
-    last (pointBytes (a .s .sn) (a .s .said)) l1 (c .before .before .put-point .ensures)
+    let l1 = more _ _ l0 (c .before .before .before .before .before .before .put-item .ensures) in
+    last _ l1 (c .before .before .put-point .ensures)
 
 pub put-head-spec : {M : Type 1} → statement M
 put-head-spec = tie.close (tie.spec put-item-requires put-point-requires same-length returns)

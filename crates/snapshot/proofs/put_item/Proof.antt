@@ -12,7 +12,7 @@ put-byte-requires c κs =
     let s = c .before .before .before in
     let a = s .args in
     let l0 = begin (itemBytes (a .x)) (a .at) (a .buf .now) (s .pre) in
-    fits (a .x .code ∷ []) (a .x .raw) l0
+    fits (a .x .code ∷ []) _ l0
 
 slice-aggregate-put-bytes : tie.Need-slice-aggregate-put-bytes
 slice-aggregate-put-bytes c = search needs
@@ -23,7 +23,7 @@ put-bytes-requires c κs =
     let s = c .before .before .before .before .before .before .before .before in
     let a = s .args in
     let l0 = begin (itemBytes (a .x)) (a .at) (a .buf .now) (s .pre) in
-    let l1 = more (a .x .code ∷ []) (a .x .raw) l0 (c .before .before .before .before .put-byte .ensures) in
+    let l1 = more _ _ l0 (c .before .before .before .before .put-byte .ensures) in
     l1 .room
 
 same-length : tie.Need-same-length
@@ -35,8 +35,8 @@ returns c =
     let s = c .before .before .before .before .before .before .before .before .before .before .before in
     let a = s .args in
     let l0 = begin (itemBytes (a .x)) (a .at) (a .buf .now) (s .pre) in
-    let l1 = more (a .x .code ∷ []) (a .x .raw) l0 (c .before .before .before .before .before .before .before .put-byte .ensures) in
-    last (a .x .raw) l1 (c .before .before .put-bytes .ensures)
+    let l1 = more _ _ l0 (c .before .before .before .before .before .before .before .put-byte .ensures) in
+    last _ l1 (c .before .before .put-bytes .ensures)
 
 pub put-item-spec : {M : Type 1} → statement M
 put-item-spec =

@@ -13,7 +13,7 @@ put-words-requires c κs =
     let s = c .before .before in
     let a = s .args in
     let l0 = begin (pointBytes (a .sn) (a .said)) (a .at) (a .buf .now) (s .pre) in
-    fits (wordsBytes (a .sn .high) (a .sn .low)) (itemBytes (a .said)) l0
+    fits (wordsBytes (a .sn .high) (a .sn .low)) _ l0
 
 put-item-requires : tie.Need-put-item-requires
 unfolding pointBytes
@@ -21,7 +21,7 @@ put-item-requires c κs =
     let s = c .before .before .before .before .before .before in
     let a = s .args in
     let l0 = begin (pointBytes (a .sn) (a .said)) (a .at) (a .buf .now) (s .pre) in
-    let l1 = more (wordsBytes (a .sn .high) (a .sn .low)) (itemBytes (a .said)) l0 (c .before .before .before .put-words .ensures) in
+    let l1 = more _ _ l0 (c .before .before .before .put-words .ensures) in
     l1 .room
 
 same-length : tie.Need-same-length
@@ -33,8 +33,8 @@ returns c =
     let s = c .before .before .before .before .before .before .before .before .before in
     let a = s .args in
     let l0 = begin (pointBytes (a .sn) (a .said)) (a .at) (a .buf .now) (s .pre) in
-    let l1 = more (wordsBytes (a .sn .high) (a .sn .low)) (itemBytes (a .said)) l0 (c .before .before .before .before .before .before .put-words .ensures) in
-    last (itemBytes (a .said)) l1 (c .before .before .put-item .ensures)
+    let l1 = more _ _ l0 (c .before .before .before .before .before .before .put-words .ensures) in
+    last _ l1 (c .before .before .put-item .ensures)
 
 pub put-point-spec : {M : Type 1} → statement M
 put-point-spec = tie.close (tie.spec put-words-requires put-item-requires same-length returns)

@@ -12,7 +12,7 @@ put-number-requires c κs =
     let s = c .before .before in
     let a = s .args in
     let l0 = begin (wordsBytes (a .a) (a .b)) (a .at) (a .buf .now) (s .pre) in
-    fits (be 8 (a .a)) (be 8 (a .b)) l0
+    fits (be 8 (a .a)) _ l0
 
 put-number-requires-2 : tie.Need-put-number-requires-2
 unfolding wordsBytes
@@ -20,7 +20,7 @@ put-number-requires-2 c κs =
     let s = c .before .before .before .before .before .before in
     let a = s .args in
     let l0 = begin (wordsBytes (a .a) (a .b)) (a .at) (a .buf .now) (s .pre) in
-    let l1 = more (be 8 (a .a)) (be 8 (a .b)) l0 (c .before .before .before .put-number .ensures) in
+    let l1 = more _ _ l0 (c .before .before .before .put-number .ensures) in
     l1 .room
 
 same-length : tie.Need-same-length
@@ -32,8 +32,8 @@ returns c =
     let s = c .before .before .before .before .before .before .before .before .before in
     let a = s .args in
     let l0 = begin (wordsBytes (a .a) (a .b)) (a .at) (a .buf .now) (s .pre) in
-    let l1 = more (be 8 (a .a)) (be 8 (a .b)) l0 (c .before .before .before .before .before .before .put-number .ensures) in
-    last (be 8 (a .b)) l1 (c .before .before .put-number2 .ensures)
+    let l1 = more _ _ l0 (c .before .before .before .before .before .before .put-number .ensures) in
+    last _ l1 (c .before .before .put-number2 .ensures)
 
 pub put-words-spec : {M : Type 1} → statement M
 put-words-spec = tie.close (tie.spec put-number-requires put-number-requires-2 same-length returns)
