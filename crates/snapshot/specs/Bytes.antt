@@ -73,3 +73,8 @@ Room xs at b = at + length xs ≤ length b
 pub record Wrote (xs : List ℕ) (at : ℕ) (before : List ℕ) (next : ℕ) (after : List ℕ) : Type 0 where
   pub behind : next ≡ at + length xs
   pub bytes : after ≡ over at xs before
+
+-- n is how many bytes xs has, and no more than `most`
+pub record Sized (xs : List ℕ) (most : ℕ) (n : ℕ) : Type 0 where
+  pub is : n ≡ length xs
+  pub few : n ≤ most

@@ -3,7 +3,7 @@ ghost use mathlib.Core.Path.{_≡_};
 ghost use mathlib.Core.List.{[], _∷_};
 ghost use Prim.Native.Nat.{_+_, _≤_, _<_};
 ghost use lib.ListN.{length, take};
-ghost use Rattle.snapshot.specs.Bytes.{be, wordsBytes, itemBytes, each, itemsBytes, counted, configBytes, weightBytes, thresholdBytes, flagByte, Room, Wrote};
+ghost use Rattle.snapshot.specs.Bytes.{be, wordsBytes, itemBytes, each, itemsBytes, counted, configBytes, weightBytes, thresholdBytes, flagByte, Room, Wrote, Sized};
 ghost use Rattle.snapshot.specs.Saved.{pointBytes, groupBytes, headBytes, tailBytes, bodyBytes, encoded, saved};
 ghost use Rattle.threshold.specs.Threshold.{shapeOf};
 ghost use Rattle.shape.specs.State.{stateShape};
@@ -211,5 +211,51 @@ fn put_body(buf: &mut [u8], at: usize, s: KeyState) -> usize
     let r = put_group(buf, q, keys, own_threshold);
     let e = put_group(buf, r, next, next_threshold);
     put_tail(buf, e, s)
+}
+
+// How many bytes the puts of the same names write.
+fn items_size(l: Items) -> usize
+    requires { ⌜ l .count ≤ 16 ⌝ }
+    ensures { λ r. ⌜ Sized (itemsBytes l) 529 r ⌝ }
+{
+    1 + 33 * l.count
+}
+
+fn threshold_size(t: Threshold) -> usize
+    requires { ⌜ shapeOf t ≡ 0 ⌝ }
+    ensures { λ r. ⌜ Sized (thresholdBytes t) 274 r ⌝ }
+{
+    if t.tag == 0 {
+        return 9;
+    }
+    let n = t.clauses;
+    let sizes = t.sizes;
+    let total = threshold::weights_in(sizes, n);
+    2 + n + 16 * total
+}
+
+fn group_size(l: Items, t: Threshold) -> usize
+    requires { ⌜ l .count ≤ 16 ⌝ }
+    requires { ⌜ shapeOf t ≡ 0 ⌝ }
+    ensures { λ r. ⌜ Sized (groupBytes l t) 803 r ⌝ }
+{
+    items_size(l) + threshold_size(t)
+}
+
+fn body_size(s: KeyState) -> usize
+    requires { ⌜ stateShape s ≡ 0 ⌝ }
+    ensures { λ r. ⌜ Sized (bodyBytes s) 2281 r ⌝ }
+{
+    let own = s.authority;
+    let keys = own.keys;
+    let own_threshold = own.threshold;
+    let commitment = s.commitment;
+    let next = commitment.next;
+    let next_threshold = commitment.threshold;
+    let witnessing = s.witnessing;
+    let witnesses = witnessing.witnesses;
+    let config = s.config;
+    let groups = group_size(keys, own_threshold) + group_size(next, next_threshold);
+    138 + groups + items_size(witnesses) + config.count
 }
 

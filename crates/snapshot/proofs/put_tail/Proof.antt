@@ -8,7 +8,7 @@ use Rattle.snapshot.specs.Saved.{pointBytes, tailBytes}
 use Rattle.items.proofs.Laws as items
 use Rattle.config.proofs.Laws as config
 use Rattle.snapshot.proofs.Shapes.{good-state}
-use Rattle.snapshot.proofs.Real.{toad-32}
+use Rattle.snapshot.proofs.Real.{real-state}
 use Rattle.snapshot.proofs.Laws.{same-bytes, begin, fits, more, last}
 use Rattle.snapshot.proofs.put_tail.Statement.{statement}
 use Rattle.snapshot.proofs.put_tail.Tie as tie
@@ -28,7 +28,7 @@ put-items-requires c κs =
 cast-put-number : tie.Need-cast-put-number
 cast-put-number c =
     let s = c .before .before .before .before .before .before .before .before .before .before .before .before .before in
-    omega (arith, toad-32 (s .args .s) _ (s .good .1 .1 .0))
+    omega (arith, real-state (s .args .s) _ (s .good .1 .1 .0) .toad)
 
 put-number-requires : tie.Need-put-number-requires
 unfolding tailBytes

@@ -7,7 +7,7 @@ use Rattle.threshold.specs.Threshold.{sizesOf, weightsIn}
 use Rattle.snapshot.specs.Bytes.{be, counted, each, weightBytes, Room}
 use Rattle.snapshot.proofs.Laws.{begin, fits, more, last, simple-bytes, weighted-bytes}
 use Rattle.snapshot.proofs.Shapes.{is-weighted}
-use Rattle.snapshot.proofs.Real.{sizes-16}
+use Rattle.snapshot.proofs.Real.{real-threshold}
 use Rattle.snapshot.proofs.put_threshold.Statement.{statement}
 use Rattle.snapshot.proofs.put_threshold.Tie as tie
 
@@ -60,14 +60,14 @@ array-share-prefix-sizes : tie.Need-array-share-prefix-sizes
 array-share-prefix-sizes c =
     let s = c .before .before .before .before .before .before .before .before .before .before .before in
     let g = is-weighted (s .args .t) (s .pre .0) (c .before .before .before .before .before .before .before .before .if1 .left) .few in
-    let h = sizes-16 (s .args .t) _ (s .good .1 .1 .0) in
+    let h = real-threshold (s .args .t) _ (s .good .1 .1 .0) .sizes in
     omega arith
 
 slice-aggregate-put-counted : tie.Need-slice-aggregate-put-counted
 slice-aggregate-put-counted c =
     let s = c .before .before .before .before .before .before .before .before .before .before .before .before in
     let g = is-weighted (s .args .t) (s .pre .0) (c .before .before .before .before .before .before .before .before .before .if1 .left) .few in
-    let h = sizes-16 (s .args .t) _ (s .good .1 .1 .0) in
+    let h = real-threshold (s .args .t) _ (s .good .1 .1 .0) .sizes in
     simp length-take (omega arith)
 
 put-counted-requires : tie.Need-put-counted-requires
