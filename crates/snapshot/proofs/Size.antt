@@ -1,7 +1,9 @@
 -- How many bytes the fields have. Assumes nothing.
 use mathlib.Core.Path.{_≡_, refl, sym, ap, _∙_}
 use mathlib.Core.List.{List, [], _∷_, _++_}
-use Prim.Native.Nat.{ℕ, zero, suc, _+_, _*_, _≤_}
+use mathlib.Core.Bool.{true, false}
+use Prim.Native.Nat.{ℕ, zero, suc, _+_, _*_, _≤_, _<_}
+use borrow.Author.Tests.{eq-eqb, ne-eqb, le-leb, lt-leb}
 use native.Mathlib.Nat.{mul-suc}
 use native.Mathlib.Omega.{arith}
 use lib.ListN.{length, take, length-append, length-take}
@@ -14,9 +16,13 @@ use Rattle.number.specs.declared.Number.{Number}
 use Rattle.weight.specs.declared.Weight.{Weight}
 use Rattle.threshold.specs.declared.Threshold.{Threshold}
 use Rattle.threshold.specs.Threshold.{sizesOf, weightsIn}
+use Rattle.answer.specs.Answer.{refused}
 use Rattle.state.specs.declared.KeyState.{KeyState}
-use Rattle.snapshot.specs.Bytes.{be, wordsBytes, itemBytes, each, itemsBytes, counted, configBytes, weightBytes, thresholdBytes, flagByte}
-use Rattle.snapshot.specs.Saved.{pointBytes, groupBytes, headBytes, tailBytes, bodyBytes, encoded}
+use Rattle.state.specs.declared.Holder.{Holder}
+use Rattle.state.specs.State.{isHeld}
+use Rattle.shape.specs.State.{stateShape, holderShape}
+use Rattle.snapshot.specs.Bytes.{be, wordsBytes, itemBytes, each, itemsBytes, counted, configBytes, weightBytes, thresholdBytes, flagByte, over}
+use Rattle.snapshot.specs.Saved.{pointBytes, groupBytes, headBytes, tailBytes, bodyBytes, encoded, saved}
 use Rattle.snapshot.proofs.Laws.{length-be, simple-bytes, weighted-bytes}
 use Rattle.snapshot.proofs.Round.{Each}
 use Rattle.snapshot.proofs.Real.{RealItems, RealThreshold, RealState}
@@ -123,3 +129,33 @@ body-size s own next witnesses r h e f g =
 pub record-size : (s : KeyState) (n : ℕ) → n ≡ length (bodyBytes s) → 4 + n ≡ length (encoded s)
 unfolding encoded
 record-size s n e = rw (length-append, length-append, length-be, ← e) (omega arith)
+
+-- ---- what saving answers, by the three checks
+module _ (h : Holder) (buf : List ℕ) where
+  pub saved-fault : (n : ℕ) → n ≡ holderShape h → (n ≡ 0 → ⊥) → saved h buf ≡ (refused n 0 0, buf)
+  unfolding saved
+  saved-fault n e ne = rw (← e, ne-eqb n 0 ne)
+
+  module _ (n : ℕ) (e : n ≡ holderShape h) (z : n ≡ 0) where
+    pub saved-empty : isHeld h ≡ false → saved h buf ≡ (refused 8 0 0, buf)
+    unfolding saved
+    saved-empty f = rw (← e, eq-eqb n 0 z, f)
+
+    module _ (size : ℕ) (held : isHeld h ≡ true) (s : size ≡ length (encoded (h .state))) where
+      pub saved-short : length buf < size → saved h buf ≡ (refused 41 size 0, buf)
+      unfolding saved
+      saved-short l = rw (← e, eq-eqb n 0 z, held, ← s, lt-leb size (length buf) l)
+
+      pub saved-whole : size ≤ length buf → saved h buf ≡ (refused 0 size 0, over 0 (encoded (h .state)) buf)
+      unfolding saved
+      saved-whole l = rw (← e, eq-eqb n 0 z, held, ← s, le-leb size (length buf) l)
+
+  -- a held state whose holder has no fault has none
+  pub held-shape : (n : ℕ) → n ≡ holderShape h → n ≡ 0 → isHeld h ≡ true → stateShape (h .state) ≡ 0
+  unfolding holderShape
+  held-shape n e z held = let f : n ≡ stateShape (h .state) = rw held at e in sym f ∙ z
+
+-- the record with the size that was counted
+pub encoded-as : (s : KeyState) (n : ℕ) → n ≡ length (bodyBytes s) → encoded s ≡ (0x4B ∷ 0x53 ∷ []) ++ (be 2 n ++ bodyBytes s)
+unfolding encoded
+encoded-as s n e = rw e

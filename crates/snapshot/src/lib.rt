@@ -259,3 +259,14 @@ fn body_size(s: KeyState) -> usize
     138 + groups + items_size(witnesses) + config.count
 }
 
+fn put_record(buf: &mut [u8], s: KeyState, size: usize) -> usize
+    requires { ⌜ stateShape s ≡ 0 ⌝ }
+    requires { ⌜ size ≡ length (bodyBytes s) ⌝ }
+    requires { ⌜ Room (encoded s) 0 (now buf) ⌝ }
+    ensures { λ r. ⌜ Wrote (encoded s) 0 (now (buf .entry)) r (now (buf .exit)) ⌝ }
+{
+    let p = put_bytes(buf, 0, b"KS");
+    let q = put_number(buf, p, 2, size as u64);
+    put_body(buf, q, s)
+}
+
