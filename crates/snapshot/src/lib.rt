@@ -270,3 +270,26 @@ fn put_record(buf: &mut [u8], s: KeyState, size: usize) -> usize
     put_body(buf, q, s)
 }
 
+// 3 or 4 for the state's own shape, 8 for an empty holder, 41 with the bytes needed for a buffer that is too short: then no
+// byte is touched. Otherwise 0, with the record's whole length.
+pub fn save(h: Holder, buf: &mut [u8]) -> Answer
+    ensures { λ r. ⌜ r ≡ saved h (now (buf .entry)) .0 ⌝ }
+    ensures { λ _. ⌜ now (buf .exit) ≡ saved h (now (buf .entry)) .1 ⌝ }
+{
+    let fault = shape::of_holder(h);
+    if fault != 0 {
+        return answer::refuse(fault, 0, 0);
+    }
+    let held = h.held;
+    if !held {
+        return answer::refuse(8, 0, 0);
+    }
+    let s = h.state;
+    let size = body_size(s);
+    let needed = 4 + size;
+    if buf.len() < needed {
+        return answer::refuse(41, needed as u64, 0);
+    }
+    put_record(buf, s, size);
+    answer::refuse(0, needed as u64, 0)
+}
