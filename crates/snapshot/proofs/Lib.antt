@@ -1,5 +1,6 @@
 pub mod Laws
 pub mod Shapes
-pub mod Real
 pub mod Round
+pub mod Real
 pub mod Size
+pub mod Back

@@ -32,10 +32,10 @@ abbrev pub Codes : {A : Type 0} → (List ℕ → ℕ → Parse A) → List ℕ 
 Codes f xs a = Reads Any f xs a
 
 module _ (s : List ℕ) (at : ℕ) (xs rest : List ℕ) (h : at ≤ length s) (e : drop at s ≡ xs ++ rest) where
-  within : at + length xs ≤ length s
+  pub within : at + length xs ≤ length s
   within = omega (arith, simp (length-drop, length-append) at (ap length e))
 
-  after : drop (at + length xs) s ≡ rest
+  pub after : drop (at + length xs) s ≡ rest
   after = rw (← drop-drop, e, drop-append-seam)
 
 -- ---- one field after another
@@ -55,9 +55,9 @@ module _ {A B : Type 0} (R : List ℕ → Type 0) (f : List ℕ → ℕ → Pars
   pub code-last : (xs : List ℕ) (a : A) (b : B) → Codes f xs a → Reads R (k a) [] b → Reads R (λ s. _>>=_ (f s) (λ v. k v s)) xs b
   code-last xs a b p q = let n : xs ++ [] ≡ xs = append-nil xs in rw (← n) (code-then xs [] a b p q)
 
-pub code-got : {A : Type 0} (R : List ℕ → Type 0) (a : A) → Reads R (λ s. got a) [] a
+pub code-got : {A : Type 0} (R : List ℕ → Type 0) (a b : A) → a ≡ b → Reads R (λ s. got a) [] b
 unfolding Reads
-code-got R a s at rest r h e = rw add-zero
+code-got R a b i s at rest r h e = rw (i, add-zero)
 
 pub code-classed : {A : Type 0} (R : List ℕ → Type 0) (good : Bool) (a : A) → good ≡ true → Reads R (λ s. classed good a) [] a
 unfolding Reads
