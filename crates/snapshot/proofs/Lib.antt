@@ -4,3 +4,5 @@ pub mod Round
 pub mod Real
 pub mod Size
 pub mod Back
+pub mod Longest
+pub mod Whole
