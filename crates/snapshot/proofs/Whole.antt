@@ -2,7 +2,7 @@
 use mathlib.Core.Path.{_≡_, refl, sym, ap, _∙_}
 use mathlib.Core.Bool.{Bool, true, false}
 use mathlib.Core.List.{List, [], _∷_, _++_, append-assoc}
-use Prim.Native.Nat.{ℕ, _+_, _*_, _^_, _/_, _%_, _≤_, _<_}
+use Prim.Native.Nat.{ℕ, suc, _+_, _*_, _^_, _/_, _%_, _≤_, _<_}
 use native.Mathlib.Nat.{div-add-mod'}
 use native.Mathlib.Omega.{arith}
 use lib.ListN.{length, take, drop, getD, length-append}
@@ -20,10 +20,10 @@ use Rattle.snapshot.proofs.Back.{round-trip}
 use Rattle.snapshot.proofs.Longest.{longest}
 
 -- the mark, two bytes of a length, and a body of that length behind them
-whole : (n hi lo : ℕ) (body rest : List ℕ) → hi * 256 + lo ≡ length body
+whole : (hi lo : ℕ) (body rest : List ℕ) → hi * 256 + lo ≡ length body
     → firstOf (0x4B ∷ 0x53 ∷ hi ∷ lo ∷ (body ++ rest)) ≡ record-of 0x4B53 (contentOf 0x4B53 body) (4 + length body)
 unfolding firstOf
-whole n hi lo body rest e =
+whole hi lo body rest e =
     let l : length (body ++ rest) ≡ length body + length rest = length-append body rest in
     let a : 4 ≤ length (0x4B ∷ 0x53 ∷ hi ∷ lo ∷ (body ++ rest)) = omega arith in
     let b : 4 + length body ≤ length (0x4B ∷ 0x53 ∷ hi ∷ lo ∷ (body ++ rest)) = omega arith in
@@ -44,5 +44,6 @@ read-back s vs rest p e =
     let n = length (bodyBytes s) in
     let h : n ≤ 2281 = longest s vs p e in
     let r = round-trip s vs p e in
+    let f : 4 + n ≡ suc (suc (suc (suc n))) = omega arith in
     rw be-two
-    (whole n (n / 256 % 256) (n % 256) (bodyBytes s) rest (two n (omega arith)) ∙ rw r)
+    (whole (n / 256 % 256) (n % 256) (bodyBytes s) rest (two n (omega arith)) ∙ rw (r, f))
