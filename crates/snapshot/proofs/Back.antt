@@ -2,15 +2,15 @@
 use mathlib.Core.Path.{_≡_, refl, sym, ap, _∙_}
 use mathlib.Core.Bool.{Bool, true, false}
 use mathlib.Core.List.{List, [], _∷_, _++_, append-nil}
-use Prim.Native.Nat.{ℕ, zero, suc, _+_, _^_, _≤_, _<_}
-use native.Mathlib.Nat.{add-zero, add-assoc}
+use Prim.Native.Nat.{ℕ, zero, suc, _+_, _≤_}
+use native.Mathlib.Nat.{add-zero}
 use native.Mathlib.Omega.{arith}
 use lib.Dec.{leb, eqb}
-use lib.ListN.{length, take, drop, replicate, length-take}
+use lib.ListN.{length, take, drop, length-take}
 use mir.Val.{Val}
 use denote.Laws.{Is}
 use borrow.Author.Tests.{le-leb, eqb-true, eqb-false}
-use Rattle.lists.specs.Lists.{pick, both, all, padded}
+use Rattle.lists.specs.Lists.{all, padded}
 use Rattle.lists.proofs.Facts.{both-true}
 use Rattle.lists.proofs.Padding.{is-padded}
 use Rattle.number.specs.declared.Number.{Number}
@@ -31,7 +31,7 @@ use Rattle.threshold.specs.Threshold.{sizesOf, weightsIn, sum, restZero, shapeO
 use Rattle.state.specs.declared.KeyState.{KeyState}
 use Rattle.state.proofs.KeyState as state
 use Rattle.shape.specs.State.{stateShape}
-use Rattle.format.specs.Parse.{Parse, got, bad, bind, _>>=_, byteAt, numAt, rawAt, classed, manyAt, listAt, ended}
+use Rattle.format.specs.Parse.{got, byteAt, numAt, rawAt, manyAt, listAt}
 use Rattle.format.specs.Fields.{snAt, itemAt, itemsAt, traitAt, configAt, flagAt, simple, weighted, sizesAt, total, weightAt, clausesAt, thresholdAs, thresholdAt}
 use Rattle.layout.specs.Records.{firstHeadAt, authorityAt, commitmentAt, latestAt, snapshotAt}
 use Rattle.snapshot.specs.Bytes.{be, wordsBytes, itemBytes, each, itemsBytes, counted, configBytes, weightBytes, thresholdBytes, flagByte}

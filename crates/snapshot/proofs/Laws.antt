@@ -9,7 +9,7 @@ use native.Mathlib.Nat.{add-zero, add-assoc, not-suc-le-zero}
 use native.Mathlib.Numerals.{add-one}
 use native.Mathlib.Omega.{arith}
 use lib.ListN.{length, take, drop, getD, set, length-append, length-take, length-drop, take-append-drop, drop-of-length-le}
-use lib.Seq.{take-set-le, drop-cons, set-split, length-take-le, drop-drop, drop-append-add, drop-at, take-suc-set, take-append-seam, drop-set-lt}
+use lib.Seq.{take-set-le, set-split, length-take-le, drop-drop, drop-append-add, drop-at, take-suc-set, take-append-seam, drop-set-lt}
 use Rattle.lists.proofs.Walks.{head-of, head-at, used-end}
 use borrow.Author.Tests.{eq-eqb, ne-eqb}
 use Rattle.threshold.specs.declared.Threshold.{Threshold}
@@ -39,7 +39,7 @@ take-set-next b k y h = rw (add-one) (take-suc-set b k y h)
 
 -- the last byte first
 over-last : (at : ℕ) (xs : List ℕ) (y : ℕ) (b : List ℕ) → at + length xs < length b
-  → over at (xs ++ (y ∷ [])) b ≡ over at xs (set b (at + length xs) y)
+    → over at (xs ++ (y ∷ [])) b ≡ over at xs (set b (at + length xs) y)
 unfolding over
 over-last at xs y b h =
     let k : at ≤ at + length xs = omega arith in
@@ -58,11 +58,11 @@ seam l d ys k e = rw (← e, take-append-seam, drop-append-add)
 
 -- one piece behind another
 over-over : (at : ℕ) (xs ys b : List ℕ) → at + length xs ≤ length b
-  → over (at + length xs) ys (over at xs b) ≡ over at (xs ++ ys) b
+    → over (at + length xs) ys (over at xs b) ≡ over at (xs ++ ys) b
 unfolding over
 over-over at xs ys b h =
     let p : length (take at b ++ xs) ≡ at + length xs =
-        rw length-append (ap (λ (n : ℕ). n + length xs) (length-take-le at b (omega arith))) in
+    rw length-append (ap (λ (n : ℕ). n + length xs) (length-take-le at b (omega arith))) in
     rw (← append-assoc (take at b) xs (drop (at + length xs) b))
     (seam (take at b ++ xs) (drop (at + length xs) b) ys (at + length xs) p
     ∙ simp (drop-drop, append-assoc, length-append, add-assoc))
@@ -129,7 +129,7 @@ module _ (src b₀ b : List ℕ) (at i : ℕ) (l : Left src at b₀ (drop i src)
 
 -- ---- As a loop writes a number from its last byte: the first i are to come.
 pub be-less : (w : List ℕ) (at : ℕ) (b : List ℕ) (i x : ℕ) → 0 < i → at + i ≤ length b → w ≡ over at (be i x) b
-  → w ≡ over at (be (i - 1) (x / 256)) (set b (at + (i - 1)) (x % 256))
+    → w ≡ over at (be (i - 1) (x / 256)) (set b (at + (i - 1)) (x % 256))
 unfolding be
 be-less w at b zero x h k e = absurd (not-suc-le-zero h)
 be-less w at b (suc i) x h k e =

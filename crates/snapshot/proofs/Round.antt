@@ -2,17 +2,16 @@
 --     Reads, Codes     what it is for bytes to be read as a value
 --     code-..          one line a field
 use mathlib.Core.Path.{_≡_, refl, sym, ap, _∙_}
-use mathlib.Core.Bool.{Bool, true, false}
+use mathlib.Core.Bool.{Bool, true}
 use mathlib.Core.List.{List, [], _∷_, _++_, append-assoc, append-nil}
 use Prim.Native.Nat.{ℕ, zero, suc, _+_, _*_, _/_, _%_, _^_, _≤_, _<_}
 use native.Mathlib.Nat.{add-zero, add-assoc, div-add-mod', div-lt-iff-lt-mul, pow-suc}
 use native.Mathlib.Omega.{arith}
-use lib.Dec.{lit<, leb, eqb}
-use lib.ListN.{length, take, drop, getD, length-append, length-drop}
+use lib.Dec.{lit<}
+use lib.ListN.{length, drop, getD, length-append, length-drop}
 use lib.Seq.{drop-drop, drop-append-seam, take-at, getD-drop}
 use borrow.Author.Tests.{le-leb, lt-ltb, eq-eqb}
-use Rattle.lists.specs.Lists.{pick, all}
-use Rattle.format.specs.Parse.{Parse, got, bad, bind, _>>=_, byteAt, beFrom, numAt, rawAt, classed, manyAt, listAt, ended}
+use Rattle.format.specs.Parse.{Parse, got, _>>=_, byteAt, beFrom, numAt, rawAt, classed, manyAt, listAt, ended}
 use Rattle.snapshot.specs.Bytes.{be, each}
 use Rattle.snapshot.proofs.Laws.{length-be}
 

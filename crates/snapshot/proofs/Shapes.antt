@@ -1,7 +1,7 @@
 -- What a shape without a fault says: of thresholds, and of a state field by field. Assumes nothing.
 use mathlib.Core.Path.{_≡_, refl, sym, _∙_}
 use mathlib.Core.Bool.{Bool, true, false}
-use mathlib.Core.List.{List, [], _∷_}
+use mathlib.Core.List.{List, _∷_}
 use Prim.Native.Nat.{ℕ, _≤_}
 use native.Mathlib.Omega.{arith}
 use lib.Dec.{eqb, leb}
@@ -16,7 +16,7 @@ use Rattle.item.specs.Item.{itemFits, itemShape}
 use Rattle.items.specs.Items as items
 use Rattle.config.specs.Config as config
 use Rattle.threshold.specs.declared.Threshold.{Threshold}
-use Rattle.threshold.specs.Threshold.{isSimple, sizesOf, weightsIn, restZero, shapeOf}
+use Rattle.threshold.specs.Threshold.{isSimple, weightsIn, restZero, shapeOf}
 use Rattle.state.specs.declared.KeyState.{KeyState}
 use Rattle.shape.specs.Event.{ownShape, nextShape}
 use Rattle.shape.specs.State.{stateHead, stateTail, stateShape}

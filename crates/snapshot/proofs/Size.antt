@@ -1,5 +1,5 @@
 -- How many bytes the fields have. Assumes nothing.
-use mathlib.Core.Path.{_≡_, refl, sym, ap, _∙_}
+use mathlib.Core.Path.{_≡_, sym, ap, _∙_}
 use mathlib.Core.List.{List, [], _∷_, _++_}
 use mathlib.Core.Bool.{true, false}
 use Prim.Native.Nat.{ℕ, zero, suc, _+_, _*_, _≤_, _<_}
@@ -21,7 +21,7 @@ use Rattle.state.specs.declared.KeyState.{KeyState}
 use Rattle.state.specs.declared.Holder.{Holder}
 use Rattle.state.specs.State.{isHeld}
 use Rattle.shape.specs.State.{stateShape, holderShape}
-use Rattle.snapshot.specs.Bytes.{be, wordsBytes, itemBytes, each, itemsBytes, counted, configBytes, weightBytes, thresholdBytes, flagByte, over}
+use Rattle.snapshot.specs.Bytes.{be, wordsBytes, itemBytes, each, itemsBytes, counted, configBytes, weightBytes, thresholdBytes, over}
 use Rattle.snapshot.specs.Saved.{pointBytes, groupBytes, headBytes, tailBytes, bodyBytes, encoded, saved}
 use Rattle.snapshot.proofs.Laws.{length-be, simple-bytes, weighted-bytes}
 use Rattle.snapshot.proofs.Round.{Each}

@@ -1,11 +1,9 @@
 -- A saved record is the first record of the buffer, whatever stands behind it. Assumes nothing.
-use mathlib.Core.Path.{_≡_, refl, sym, ap, _∙_}
-use mathlib.Core.Bool.{Bool, true, false}
-use mathlib.Core.List.{List, [], _∷_, _++_, append-assoc}
+use mathlib.Core.Path.{_≡_, refl, _∙_}
+use mathlib.Core.List.{List, [], _∷_, _++_}
 use Prim.Native.Nat.{ℕ, suc, _+_, _*_, _^_, _/_, _%_, _≤_, _<_}
-use native.Mathlib.Nat.{div-add-mod'}
 use native.Mathlib.Omega.{arith}
-use lib.ListN.{length, take, drop, getD, length-append}
+use lib.ListN.{length, drop, length-append}
 use lib.Seq.{take-append-seam}
 use mir.Val.{Val}
 use denote.Laws.{Is}
@@ -13,8 +11,8 @@ use borrow.Author.Tests.{le-leb}
 use Rattle.state.specs.declared.KeyState.{KeyState}
 use Rattle.state.proofs.KeyState as state
 use Rattle.shape.specs.State.{stateShape}
-use Rattle.layout.specs.Records.{snapshot, record-of, bodyLength, contentOf, firstOf}
-use Rattle.snapshot.specs.Bytes.{be}
+use Rattle.layout.specs.Records.{snapshot, record-of, contentOf, firstOf}
+use Rattle.snapshot.specs.Bytes.{be, over}
 use Rattle.snapshot.specs.Saved.{bodyBytes, encoded}
 use Rattle.snapshot.proofs.Back.{round-trip}
 use Rattle.snapshot.proofs.Longest.{longest}
@@ -47,3 +45,9 @@ read-back s vs rest p e =
     let f : 4 + n ≡ suc (suc (suc (suc n))) = omega arith in
     rw be-two
     (whole (n / 256 % 256) (n % 256) (bodyBytes s) rest (two n (omega arith)) ∙ rw (r, f))
+
+-- so it is in the buffer after saving
+pub saved-back : (s : KeyState) (vs : List Val) (buf : List ℕ) → Is state.the-row s vs → stateShape s ≡ 0
+    → firstOf (over 0 (encoded s) buf) ≡ record-of 0x4B53 (snapshot s) (length (encoded s))
+unfolding over
+saved-back s vs buf p e = read-back s vs (drop (0 + length (encoded s)) buf) p e

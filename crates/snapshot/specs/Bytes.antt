@@ -2,11 +2,10 @@
 use mathlib.Core.Path.{_≡_}
 use Prim.Native.Nat.{ℕ, zero, suc, _+_, _/_, _%_, _≤_}
 use mathlib.Core.List.{List, [], _∷_, _++_}
-use mathlib.Core.Bool.{Bool, true, false}
+use mathlib.Core.Bool.{Bool}
 use lib.ListN.{length, take, drop}
 use Rattle.lists.specs.Lists.{pick}
 use Rattle.item.specs.declared.Item.{Item}
-use Rattle.number.specs.declared.Number.{Number}
 use Rattle.items.specs.declared.Items.{Items}
 use Rattle.items.specs.Items.{listed}
 use Rattle.config.specs.declared.Config.{Config}

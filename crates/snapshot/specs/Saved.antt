@@ -3,7 +3,6 @@
 -- length included, as in 41) as a, and touches no byte after it; saving an empty holder answers 8."
 use Prim.Native.Nat.{ℕ}
 use mathlib.Core.List.{List, [], _∷_, _++_}
-use mathlib.Core.Bool.{Bool, true, false}
 use lib.Dec.{leb, eqb}
 use lib.ListN.{length}
 use Rattle.lists.specs.Lists.{pick}

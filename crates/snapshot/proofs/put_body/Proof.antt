@@ -1,7 +1,6 @@
-use mathlib.Core.Path.{_≡_, refl, sym, _∙_, ap}
 use borrow.Author.Needs.{needs}
-use mathlib.Core.List.{[], _∷_, _++_}
-use Rattle.snapshot.specs.Saved.{headBytes, groupBytes, tailBytes, bodyBytes}
+use mathlib.Core.List.{[], _∷_}
+use Rattle.snapshot.specs.Saved.{headBytes, groupBytes, bodyBytes}
 use Rattle.items.proofs.Laws as items
 use Rattle.snapshot.proofs.Shapes.{good-state}
 use Rattle.snapshot.proofs.Laws.{begin, fits, more, last}

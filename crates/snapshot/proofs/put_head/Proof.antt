@@ -1,8 +1,6 @@
-use mathlib.Core.Path.{_≡_, refl, sym, _∙_, ap}
 use borrow.Author.Needs.{needs}
-use mathlib.Core.List.{[], _∷_, _++_}
 use Rattle.snapshot.specs.Bytes.{itemBytes}
-use Rattle.snapshot.specs.Saved.{pointBytes, headBytes}
+use Rattle.snapshot.specs.Saved.{headBytes}
 use Rattle.snapshot.proofs.Laws.{begin, fits, more, last}
 use Rattle.snapshot.proofs.put_head.Statement.{statement}
 use Rattle.snapshot.proofs.put_head.Tie as tie

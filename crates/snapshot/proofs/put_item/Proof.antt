@@ -1,6 +1,5 @@
-use mathlib.Core.Path.{_≡_, refl, sym, _∙_, ap}
 use borrow.Author.Needs.{needs}
-use mathlib.Core.List.{[], _∷_, _++_}
+use mathlib.Core.List.{[], _∷_}
 use Rattle.snapshot.specs.Bytes.{itemBytes}
 use Rattle.snapshot.proofs.Laws.{begin, fits, more, last}
 use Rattle.snapshot.proofs.put_item.Statement.{statement}

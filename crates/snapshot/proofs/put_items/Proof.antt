@@ -68,8 +68,7 @@ loop-again : tie.Need-loop-again Inv-loop μ-loop
 loop-again c =
     let a = c .before .before .before .before .before .before .before .before .before .before .before .before .before .args in
     let l = c .before .before .before .before .before .before .loop in
-    let w = c .before .before .put-item .ensures in
-    (
+    let w = c .before .before .put-item .ensures in (
       search needs,
       search needs,
       search needs,

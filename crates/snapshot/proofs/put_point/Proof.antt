@@ -1,7 +1,5 @@
-use mathlib.Core.Path.{_≡_, refl, sym, _∙_, ap}
 use borrow.Author.Needs.{needs}
-use mathlib.Core.List.{[], _∷_, _++_}
-use Rattle.snapshot.specs.Bytes.{wordsBytes, itemBytes}
+use Rattle.snapshot.specs.Bytes.{wordsBytes}
 use Rattle.snapshot.specs.Saved.{pointBytes}
 use Rattle.snapshot.proofs.Laws.{begin, fits, more, last}
 use Rattle.snapshot.proofs.put_point.Statement.{statement}

@@ -1,4 +1,3 @@
-use mathlib.Core.Path.{_≡_, refl, sym, _∙_, ap}
 use mathlib.Core.List.{[], _∷_, _++_}
 use borrow.Author.Needs.{needs}
 use Rattle.snapshot.specs.Bytes.{be}

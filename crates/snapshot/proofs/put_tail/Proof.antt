@@ -1,10 +1,10 @@
-use mathlib.Core.Path.{_≡_, refl, sym, _∙_, ap}
+use mathlib.Core.Path.{ap}
 use borrow.Author.Needs.{needs}
 use Prim.Native.Nat.{ℕ}
 use native.Mathlib.Omega.{arith}
-use mathlib.Core.List.{[], _∷_, _++_}
+use mathlib.Core.List.{[], _∷_}
 use Rattle.snapshot.specs.Bytes.{be, itemsBytes, configBytes, flagByte}
-use Rattle.snapshot.specs.Saved.{pointBytes, tailBytes}
+use Rattle.snapshot.specs.Saved.{tailBytes}
 use Rattle.items.proofs.Laws as items
 use Rattle.config.proofs.Laws as config
 use Rattle.snapshot.proofs.Shapes.{good-state}

@@ -1,7 +1,5 @@
-use mathlib.Core.Path.{_≡_, refl, sym, _∙_, ap}
 use borrow.Author.Needs.{needs}
 use Rattle.snapshot.specs.Bytes.{be, wordsBytes}
-use mathlib.Core.List.{_++_}
 use Rattle.snapshot.proofs.Laws.{begin, fits, more, last}
 use Rattle.snapshot.proofs.put_words.Statement.{statement}
 use Rattle.snapshot.proofs.put_words.Tie as tie
