@@ -31,7 +31,7 @@ fn widened(x: u8) -> usize
     x as usize
 }
 
-fn weights_in(sizes: [u8; 16], n: usize) -> usize
+pub fn weights_in(sizes: [u8; 16], n: usize) -> usize
     ensures { λ r. ⌜ r ≡ sum (take n sizes) ⌝ }
 {
     let mut total = 0;

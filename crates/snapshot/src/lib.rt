@@ -1,0 +1,295 @@
+// Saving: the KS record of a held state, written over the start of a lent buffer.
+ghost use mathlib.Core.Path.{_≡_};
+ghost use mathlib.Core.List.{[], _∷_};
+ghost use Prim.Native.Nat.{_+_, _≤_, _<_};
+ghost use lib.ListN.{length, take};
+ghost use Rattle.snapshot.specs.Bytes.{be, wordsBytes, itemBytes, each, itemsBytes, counted, configBytes, weightBytes, thresholdBytes, flagByte, Room, Wrote, Sized};
+ghost use Rattle.snapshot.specs.Saved.{pointBytes, groupBytes, headBytes, tailBytes, bodyBytes, encoded, saved};
+ghost use Rattle.threshold.specs.Threshold.{shapeOf};
+ghost use Rattle.shape.specs.State.{stateShape};
+use answer::Answer;
+use config::Config;
+use item::Item;
+use items::Items;
+use number::Number;
+use state::Holder;
+use state::KeyState;
+use threshold::Threshold;
+use weight::Weight;
+
+// Each `put` writes from a place on where its caller has room, and gives the place behind what it wrote.
+fn put_byte(buf: &mut [u8], at: usize, b: u8) -> usize
+    requires { ⌜ Room (b ∷ []) at (now buf) ⌝ }
+    ensures { λ r. ⌜ Wrote (b ∷ []) at (now (buf .entry)) r (now (buf .exit)) ⌝ }
+{
+    buf[at] = b;
+    at + 1
+}
+
+fn put_bytes(buf: &mut [u8], at: usize, src: &[u8]) -> usize
+    requires { ⌜ Room (now src) at (now buf) ⌝ }
+    ensures { λ r. ⌜ Wrote (now (src .entry)) at (now (buf .entry)) r (now (buf .exit)) ⌝ }
+{
+    let mut i: usize = 0;
+    while i < src.len() {
+        buf[at + i] = src[i];
+        i += 1;
+    }
+    at + i
+}
+
+// "Numbers are big-endian": the last byte is the lowest.
+fn put_number(buf: &mut [u8], at: usize, width: usize, v: u64) -> usize
+    requires { ⌜ Room (be width v) at (now buf) ⌝ }
+    ensures { λ r. ⌜ Wrote (be width v) at (now (buf .entry)) r (now (buf .exit)) ⌝ }
+{
+    let mut x = v;
+    let mut i = width;
+    while 0 < i {
+        i = i - 1;
+        buf[at + i] = (x % 256) as u8;
+        x = x / 256;
+    }
+    at + width
+}
+
+fn put_words(buf: &mut [u8], at: usize, a: u64, b: u64) -> usize
+    requires { ⌜ Room (wordsBytes a b) at (now buf) ⌝ }
+    ensures { λ r. ⌜ Wrote (wordsBytes a b) at (now (buf .entry)) r (now (buf .exit)) ⌝ }
+{
+    let p = put_number(buf, at, 8, a);
+    put_number(buf, p, 8, b)
+}
+
+fn put_item(buf: &mut [u8], at: usize, x: Item) -> usize
+    requires { ⌜ Room (itemBytes x) at (now buf) ⌝ }
+    ensures { λ r. ⌜ Wrote (itemBytes x) at (now (buf .entry)) r (now (buf .exit)) ⌝ }
+{
+    let raw = x.raw;
+    let p = put_byte(buf, at, x.code);
+    put_bytes(buf, p, &raw)
+}
+
+fn put_items(buf: &mut [u8], at: usize, l: Items) -> usize
+    requires { ⌜ l .count ≤ 16 ⌝ }
+    requires { ⌜ Room (itemsBytes l) at (now buf) ⌝ }
+    ensures { λ r. ⌜ Wrote (itemsBytes l) at (now (buf .entry)) r (now (buf .exit)) ⌝ }
+{
+    let n = l.count;
+    let places = l.at;
+    let mut p = put_byte(buf, at, n as u8);
+    let mut i: usize = 0;
+    while i < n {
+        let x = places[i];
+        p = put_item(buf, p, x);
+        i += 1;
+    }
+    p
+}
+
+fn put_counted(buf: &mut [u8], at: usize, src: &[u8]) -> usize
+    requires { ⌜ length (now src) ≤ 16 ⌝ }
+    requires { ⌜ Room (counted (now src)) at (now buf) ⌝ }
+    ensures { λ r. ⌜ Wrote (counted (now (src .entry))) at (now (buf .entry)) r (now (buf .exit)) ⌝ }
+{
+    let n = src.len();
+    let p = put_byte(buf, at, n as u8);
+    put_bytes(buf, p, src)
+}
+
+fn put_weights(buf: &mut [u8], at: usize, weights: [Weight; 16], n: usize) -> usize
+    requires { ⌜ n ≤ 16 ⌝ }
+    requires { ⌜ Room (each weightBytes (take n weights)) at (now buf) ⌝ }
+    ensures { λ r. ⌜ Wrote (each weightBytes (take n weights)) at (now (buf .entry)) r (now (buf .exit)) ⌝ }
+{
+    let mut p = at;
+    let mut i: usize = 0;
+    while i < n {
+        let w = weights[i];
+        p = put_words(buf, p, w.num, w.den);
+        i += 1;
+    }
+    p
+}
+
+fn put_threshold(buf: &mut [u8], at: usize, t: Threshold) -> usize
+    requires { ⌜ shapeOf t ≡ 0 ⌝ }
+    requires { ⌜ Room (thresholdBytes t) at (now buf) ⌝ }
+    ensures { λ r. ⌜ Wrote (thresholdBytes t) at (now (buf .entry)) r (now (buf .exit)) ⌝ }
+{
+    if t.tag == 0 {
+        let p = put_byte(buf, at, 0);
+        return put_number(buf, p, 8, t.simple);
+    }
+    let n = t.clauses;
+    let sizes = t.sizes;
+    let weights = t.weights;
+    let total = threshold::weights_in(sizes, n);
+    let p = put_byte(buf, at, 1);
+    let q = put_counted(buf, p, &sizes[..n]);
+    put_weights(buf, q, weights, total)
+}
+
+fn put_config(buf: &mut [u8], at: usize, c: Config) -> usize
+    requires { ⌜ c .count ≤ 8 ⌝ }
+    requires { ⌜ Room (configBytes c) at (now buf) ⌝ }
+    ensures { λ r. ⌜ Wrote (configBytes c) at (now (buf .entry)) r (now (buf .exit)) ⌝ }
+{
+    let n = c.count;
+    let traits = c.traits;
+    put_counted(buf, at, &traits[..n])
+}
+
+fn put_point(buf: &mut [u8], at: usize, sn: Number, said: Item) -> usize
+    requires { ⌜ Room (pointBytes sn said) at (now buf) ⌝ }
+    ensures { λ r. ⌜ Wrote (pointBytes sn said) at (now (buf .entry)) r (now (buf .exit)) ⌝ }
+{
+    let p = put_words(buf, at, sn.high, sn.low);
+    put_item(buf, p, said)
+}
+
+fn put_group(buf: &mut [u8], at: usize, l: Items, t: Threshold) -> usize
+    requires { ⌜ l .count ≤ 16 ⌝ }
+    requires { ⌜ shapeOf t ≡ 0 ⌝ }
+    requires { ⌜ Room (groupBytes l t) at (now buf) ⌝ }
+    ensures { λ r. ⌜ Wrote (groupBytes l t) at (now (buf .entry)) r (now (buf .exit)) ⌝ }
+{
+    let p = put_items(buf, at, l);
+    put_threshold(buf, p, t)
+}
+
+fn put_head(buf: &mut [u8], at: usize, s: KeyState) -> usize
+    requires { ⌜ Room (headBytes s) at (now buf) ⌝ }
+    ensures { λ r. ⌜ Wrote (headBytes s) at (now (buf .entry)) r (now (buf .exit)) ⌝ }
+{
+    let prefix = s.prefix;
+    let sn = s.sn;
+    let said = s.said;
+    let p = put_item(buf, at, prefix);
+    put_point(buf, p, sn, said)
+}
+
+fn flag_byte(b: bool) -> u8
+    ensures { λ r. ⌜ r ≡ flagByte b ⌝ }
+{
+    if b { 1 } else { 0 }
+}
+
+fn put_tail(buf: &mut [u8], at: usize, s: KeyState) -> usize
+    requires { ⌜ stateShape s ≡ 0 ⌝ }
+    requires { ⌜ Room (tailBytes s) at (now buf) ⌝ }
+    ensures { λ r. ⌜ Wrote (tailBytes s) at (now (buf .entry)) r (now (buf .exit)) ⌝ }
+{
+    let witnessing = s.witnessing;
+    let witnesses = witnessing.witnesses;
+    let toad = witnessing.toad;
+    let config = s.config;
+    let last = s.last;
+    let sn = last.sn;
+    let said = last.said;
+    let flag = flag_byte(s.transferable);
+    let p = put_items(buf, at, witnesses);
+    let q = put_number(buf, p, 4, toad as u64);
+    let r = put_config(buf, q, config);
+    let e = put_byte(buf, r, flag);
+    put_point(buf, e, sn, said)
+}
+
+fn put_body(buf: &mut [u8], at: usize, s: KeyState) -> usize
+    requires { ⌜ stateShape s ≡ 0 ⌝ }
+    requires { ⌜ Room (bodyBytes s) at (now buf) ⌝ }
+    ensures { λ r. ⌜ Wrote (bodyBytes s) at (now (buf .entry)) r (now (buf .exit)) ⌝ }
+{
+    let own = s.authority;
+    let keys = own.keys;
+    let own_threshold = own.threshold;
+    let commitment = s.commitment;
+    let next = commitment.next;
+    let next_threshold = commitment.threshold;
+    let p = put_head(buf, at, s);
+    let q = put_byte(buf, p, s.latest);
+    let r = put_group(buf, q, keys, own_threshold);
+    let e = put_group(buf, r, next, next_threshold);
+    put_tail(buf, e, s)
+}
+
+// How many bytes the puts of the same names write.
+fn items_size(l: Items) -> usize
+    requires { ⌜ l .count ≤ 16 ⌝ }
+    ensures { λ r. ⌜ Sized (itemsBytes l) 529 r ⌝ }
+{
+    1 + 33 * l.count
+}
+
+fn threshold_size(t: Threshold) -> usize
+    requires { ⌜ shapeOf t ≡ 0 ⌝ }
+    ensures { λ r. ⌜ Sized (thresholdBytes t) 274 r ⌝ }
+{
+    if t.tag == 0 {
+        return 9;
+    }
+    let n = t.clauses;
+    let sizes = t.sizes;
+    let total = threshold::weights_in(sizes, n);
+    2 + n + 16 * total
+}
+
+fn group_size(l: Items, t: Threshold) -> usize
+    requires { ⌜ l .count ≤ 16 ⌝ }
+    requires { ⌜ shapeOf t ≡ 0 ⌝ }
+    ensures { λ r. ⌜ Sized (groupBytes l t) 803 r ⌝ }
+{
+    items_size(l) + threshold_size(t)
+}
+
+fn body_size(s: KeyState) -> usize
+    requires { ⌜ stateShape s ≡ 0 ⌝ }
+    ensures { λ r. ⌜ Sized (bodyBytes s) 2281 r ⌝ }
+{
+    let own = s.authority;
+    let keys = own.keys;
+    let own_threshold = own.threshold;
+    let commitment = s.commitment;
+    let next = commitment.next;
+    let next_threshold = commitment.threshold;
+    let witnessing = s.witnessing;
+    let witnesses = witnessing.witnesses;
+    let config = s.config;
+    let groups = group_size(keys, own_threshold) + group_size(next, next_threshold);
+    138 + groups + items_size(witnesses) + config.count
+}
+
+fn put_record(buf: &mut [u8], s: KeyState, size: usize) -> usize
+    requires { ⌜ stateShape s ≡ 0 ⌝ }
+    requires { ⌜ size ≡ length (bodyBytes s) ⌝ }
+    requires { ⌜ Room (encoded s) 0 (now buf) ⌝ }
+    ensures { λ r. ⌜ Wrote (encoded s) 0 (now (buf .entry)) r (now (buf .exit)) ⌝ }
+{
+    let p = put_bytes(buf, 0, b"KS");
+    let q = put_number(buf, p, 2, size as u64);
+    put_body(buf, q, s)
+}
+
+// 3 or 4 for the state's own shape, 8 for an empty holder, 41 with the bytes needed for a buffer that is too short: then no
+// byte is touched. Otherwise 0, with the record's whole length.
+pub fn save(h: Holder, buf: &mut [u8]) -> Answer
+    ensures { λ r. ⌜ r ≡ saved h (now (buf .entry)) .0 ⌝ }
+    ensures { λ _. ⌜ now (buf .exit) ≡ saved h (now (buf .entry)) .1 ⌝ }
+{
+    let fault = shape::of_holder(h);
+    if fault != 0 {
+        return answer::refuse(fault, 0, 0);
+    }
+    let held = h.held;
+    if !held {
+        return answer::refuse(8, 0, 0);
+    }
+    let s = h.state;
+    let size = body_size(s);
+    let needed = 4 + size;
+    if buf.len() < needed {
+        return answer::refuse(41, needed as u64, 0);
+    }
+    put_record(buf, s, size);
+    answer::refuse(0, needed as u64, 0)
+}
