@@ -28,17 +28,18 @@ use Rattle.wire.specs.Wire.{sigersSpan, sigersOf}
 use Rattle.wire.proofs.Laws.{sigers-values}
 use Rattle.parts.specs.declared.HeadMarks.{HeadMarks}
 use Rattle.parts.specs.declared.BodyMarks.{BodyMarks}
+use Rattle.parts.specs.Parts.{firstHeadPlaces, laterHeadPlaces, quorumPlaces, signersPlaces, inceptionBodyPlaces, rotationBodyPlaces, noBodyMarks, headOf, authorityOf, commitmentOf, bodyOf}
+use Rattle.parts.proofs.Laws.{itemsAs, configAs, no-body, first-head-value, later-head-value, authority-value, commitment-value, inception-body-value, rotation-body-value}
 use Rattle.record.specs.declared.TailMarks.{TailMarks}
 use Rattle.record.specs.declared.EventMarks.{EventMarks}
 use Rattle.record.specs.declared.StateMarks.{StateMarks}
-use Rattle.parts.specs.Parts.{firstHeadPlaces, laterHeadPlaces, quorumPlaces, signersPlaces, inceptionBodyPlaces, rotationBodyPlaces, noBodyMarks, headOf, authorityOf, commitmentOf, bodyOf}
-use Rattle.parts.proofs.Laws.{itemsAs, configAs, no-body, first-head-value, later-head-value, authority-value, commitment-value, inception-body-value, rotation-body-value}
 use Rattle.record.specs.Marks.{tailPlaces, inceptionPlaces, rotationPlaces, interactionPlaces, lastPlaces, snapshotPlaces, stateOf, eventOf}
 
+-- the signatures at a list's count and first place
 abbrev sigersAs : List ℕ → ℕ × ℕ → Sigers
 sigersAs s m = packedSigers (sigersOf s (m .0) (m .1))
 
--- ---- Chains of fields
+-- ---- Chains of fields, beside those of cursor
 -- a last group that is only put into a record
 closing : {A B C : Type 0} (g : B → C) (f : A → B) (p : Parse A) → mapped g (bind p (λ a n. got (f a) n)) ≡ mapped (λ a. g (f a)) p
 closing g f (got a n) = refl

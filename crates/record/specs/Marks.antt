@@ -13,17 +13,18 @@ use Rattle.layout.specs.Records.{latestAt}
 use Rattle.field.specs.Field.{placeAt, itemOf, itemsOf, configOf}
 use Rattle.wire.specs.declared.Span as W
 use Rattle.wire.specs.Wire.{sigersSpan, sigersOf}
+use Rattle.parts.specs.declared.BodyScan as B
 use Rattle.parts.specs.Parts.{listing, firstHeadPlaces, laterHeadPlaces, inceptionBodyPlaces, rotationBodyPlaces, noBodyMarks, headOf, authorityOf, commitmentOf, bodyOf}
 use Rattle.record.specs.declared.TailMarks.{TailMarks}
 use Rattle.record.specs.declared.EventMarks.{EventMarks}
 use Rattle.record.specs.declared.LastMarks.{LastMarks}
 use Rattle.record.specs.declared.StateMarks.{StateMarks}
-use Rattle.parts.specs.declared.BodyScan as B
 use Rattle.record.specs.declared.TailScan as T
 use Rattle.record.specs.declared.EventScan as E
 use Rattle.record.specs.declared.LastScan as L
 use Rattle.record.specs.declared.StateScan as S
 
+-- ---- What a scan gives, as a reading
 abbrev pub tailIs : T.TailScan → Parse TailMarks
 tailIs (T.the-variants.Of m n) = got m n
 tailIs (T.the-variants.No k) = bad k
@@ -40,6 +41,7 @@ abbrev pub stateIs : S.StateScan → Parse StateMarks
 stateIs (S.the-variants.Of m n) = got m n
 stateIs (S.the-variants.No k) = bad k
 
+-- the refusal that a scan stopped with; 3 for one that did not stop, which is never asked
 abbrev pub refusalOfSigers : W.Span → ℕ
 refusalOfSigers (W.the-variants.Of n p q) = 3
 refusalOfSigers (W.the-variants.No k) = k
@@ -52,6 +54,7 @@ abbrev pub refusalOfTail : T.TailScan → ℕ
 refusalOfTail (T.the-variants.Of m n) = 3
 refusalOfTail (T.the-variants.No k) = k
 
+-- ---- The places
 unfoldable pub tailPlaces : List ℕ → ℕ → Parse TailMarks
 tailPlaces s = do
   anchors ← numAt 4 s
@@ -94,6 +97,7 @@ snapshotPlaces s = do
   last ← lastPlaces s
   got (record { head = h; latest = latest; body = b; last = last })
 
+-- ---- What stands at the marks
 abbrev pub stateOf : List ℕ → StateMarks → KeyState
 stateOf s m =
     record {

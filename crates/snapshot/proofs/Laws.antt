@@ -19,7 +19,7 @@ use Rattle.snapshot.specs.Bytes.{be, each, counted, weightBytes, thresho
 pub length-be : (w v : ℕ) → length (be w v) ≡ w
 unfolding be
 length-be zero v = refl
-length-be (suc w) v = rw (length-append, length-be w (v / 256), add-one)
+length-be (suc w) v = simp (length-append, length-be w (v / 256)) (omega arith)
 
 over-none : (at : ℕ) (b : List ℕ) → over at [] b ≡ b
 unfolding over
