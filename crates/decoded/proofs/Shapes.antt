@@ -142,10 +142,10 @@ gives-sizes s (suc n) sum h =
     (λ zs p. gives-got (Sizes (suc n) sum) (z ∷ zs) (ap suc (p .0), let q = p .1 in omega arith)))
     (gives-bad (Sizes (suc n) sum) 4 (omega arith) (omega arith)))
 
-abbrev Clauses : List ℕ → Type 0
+abbrev pub Clauses : List ℕ → Type 0
 Clauses zs = (length zs ≤ 16) × (total zs ≤ 16)
 
-gives-clauses : (s : List ℕ) → Gives Clauses (clausesAt s)
+pub gives-clauses : (s : List ℕ) → Gives Clauses (clausesAt s)
 unfolding clausesAt
 gives-clauses s =
     gives-then Some Clauses (byteAt s) _ (gives-byte s)
