@@ -1,10 +1,10 @@
 -- The counting step over a list: after all elements the tally is the list, packed, and its places; so what is concluded is the whole answer.
 -- Assumes nothing.
---     through, one-more, at-end     a list taken element by element
---     counted-, pushed-        the ways through the step
---     step-is, stepped-is      one more element, and all of them
---     conclude-                what is concluded from a tally
---     too-many, few-enough     the whole answer, above 48 elements and not
+--     through, one-more, at-end   a list taken element by element
+--     counted-, pushed-           the ways through the step
+--     step-is, stepped-is         one more element, and all of them
+--     conclude-                   what is concluded from a tally
+--     too-many, few-enough        the whole answer, above 48 elements and not
 use mathlib.Core.Path.{_≡_, refl, sym, ap, _∙_}
 use mathlib.Core.Bool.{Bool, true, false}
 use mathlib.Core.List.{List, [], _∷_, _++_, append-nil, append-assoc}
@@ -12,20 +12,19 @@ use Prim.Native.Nat.{ℕ, suc, zero, _+_, _-_, _<_, _≤_}
 use native.Mathlib.Nat.{le-antisymm}
 use native.Mathlib.Numerals.{add-one}
 use native.Mathlib.Omega.{arith}
-use lib.Dec.{eqb, leb}
+use lib.Dec.{eqb}
 use lib.ListN.{length, length-append, drop, set, replicate, getD}
 use lib.Seq.{drop-cons, drop-length}
 use borrow.Author.Tests.{le-leb, lt-leb, eq-eqb, ne-eqb}
 use Rattle.lists.specs.Lists.{pick, any, all, sameNumbers}
 use Rattle.lists.proofs.Padding.{padded-used, padded-unused, padded-push}
-use Rattle.answer.specs.declared.Answer.{Answer}
 use Rattle.answer.specs.Answer.{refused}
 use Rattle.places.specs.Places.{placesIn}
 use Rattle.places.proofs.Laws.{places-set}
 use Rattle.verification.specs.declared.Siger.{Siger}
 use Rattle.verification.specs.declared.Sigers.{Sigers}
 use Rattle.verification.specs.declared.Counted.{Counted}
-use Rattle.verification.specs.Verification.{signatures, sameWire, countedWith, countedOf, verifiedAt, verifiedPlaces, noSiger, ondexFits, zeroSiger, packedSigers, shapeOf}
+use Rattle.verification.specs.Verification.{signatures, sameWire, countedWith, countedOf, verifiedAt, noSiger, ondexFits, zeroSiger, packedSigers, shapeOf}
 use Rattle.verification.proofs.Laws.{counted-copy, counted-more, counted-none}
 use Rattle.authority.specs.Authority.{receipts, receiptedBy}
 use Rattle.lent_receipts.specs.declared.Tally.{Tally}

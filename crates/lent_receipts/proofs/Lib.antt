@@ -1,2 +1,2 @@
 pub mod Laws
-pub mod Walk
+pub mod Lent

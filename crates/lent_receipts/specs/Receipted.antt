@@ -1,6 +1,6 @@
 -- What a lent list of receipts gets. The whole answer first; then the by-value counting step that the walk hands each element to.
 use Prim.Native.Nat.{ℕ, _+_}
-use mathlib.Core.List.{List, [], _∷_}
+use mathlib.Core.List.{List, []}
 use lib.Dec.{eqb, leb}
 use lib.ListN.{length, set}
 use Rattle.lists.specs.Lists.{pick, any, all}

@@ -10,7 +10,7 @@ use verification::Siger;
 use verification::Sigers;
 
 // The receipts so far, since a copy is looked for among them, and the places that they speak for.
-pub struct Tally {
+struct Tally {
     pub seen: Sigers,
     pub counted: Counted,
 }
