@@ -5,6 +5,7 @@
 --     step-is, stepped-is         one more element, and all of them
 --     conclude-                   what is concluded from a tally
 --     too-many, few-enough        the whole answer, above 48 elements and not
+--     as-by-value                 it is authority's `receipted_by` on a list of the right shape
 use mathlib.Core.Path.{_≡_, refl, sym, ap, _∙_}
 use mathlib.Core.Bool.{Bool, true, false}
 use mathlib.Core.List.{List, [], _∷_, _++_, append-nil, append-assoc}
@@ -13,7 +14,7 @@ use native.Mathlib.Nat.{le-antisymm}
 use native.Mathlib.Numerals.{add-one}
 use native.Mathlib.Omega.{arith}
 use lib.Dec.{eqb}
-use lib.ListN.{length, length-append, drop, set, replicate, getD}
+use lib.ListN.{length, length-append, length-take, drop, set, replicate, getD}
 use lib.Seq.{drop-cons, drop-length}
 use borrow.Author.Tests.{le-leb, lt-leb, eq-eqb, ne-eqb}
 use Rattle.lists.specs.Lists.{pick, any, all, sameNumbers}
@@ -25,8 +26,10 @@ use Rattle.verification.specs.declared.Siger.{Siger}
 use Rattle.verification.specs.declared.Sigers.{Sigers}
 use Rattle.verification.specs.declared.Counted.{Counted}
 use Rattle.verification.specs.Verification.{signatures, sameWire, countedWith, countedOf, verifiedAt, noSiger, ondexFits, zeroSiger, packedSigers, shapeOf}
-use Rattle.verification.proofs.Laws.{counted-copy, counted-more, counted-none}
-use Rattle.authority.specs.Authority.{receipts, receiptedBy}
+use Rattle.verification.proofs.Laws.{counted-copy, counted-more, counted-none, good}
+use Rattle.items.specs.Items.{listed}
+use Rattle.authority.specs.declared.Witnessing.{Witnessing}
+use Rattle.authority.specs.Authority.{receipts, receiptedBy, witnessed}
 use Rattle.lent_receipts.specs.declared.Tally.{Tally}
 use Rattle.lent_receipts.specs.Receipted.{receiptedFrom, countedNext, pushed, stepOf, noneYet, concluded}
 
@@ -143,3 +146,11 @@ module _ (toad witnesses : ℕ) (xs : List Siger) where
   pub few-enough : length xs ≤ 48 → concluded toad (through (stepOf witnesses) noneYet xs) ≡ receiptedFrom toad witnesses xs
   unfolding receiptedFrom
   few-enough h = rw (stepped-is witnesses xs h, le-leb (length xs) 48 h) (concluded-is toad witnesses xs h)
+
+-- a list of the right shape, held by value, gets what it gets lent
+pub as-by-value : (w : Witnessing) (l : Sigers) → length (l .at) ≡ 48 → shapeOf l ≡ 0 → receiptedFrom (w .toad) (length (listed (w .witnesses))) (signatures l) ≡ witnessed w l
+unfolding receiptedFrom
+as-by-value w l h e =
+    let g = good l e in
+    let n : length (signatures l) ≤ 48 = simp length-take (omega arith) in
+    rw (le-leb (length (signatures l)) 48 n, g .fit)
