@@ -34,6 +34,7 @@ fn is_copy(l: Sigers, s: Siger) -> bool
     false
 }
 
+// "Of copies equal in code, index, ondex and raw, the first decides."
 fn counted_next(l: Sigers, c: Counted, s: Siger, witnesses: usize) -> Counted
     ensures { λ r. ⌜ r ≡ countedNext witnesses l c s ⌝ }
 {
@@ -43,6 +44,7 @@ fn counted_next(l: Sigers, c: Counted, s: Siger, witnesses: usize) -> Counted
     verification::counted_with(c, s, witnesses, 0)
 }
 
+// A full list stays as it is: the walk hands over no more than 48.
 fn pushed(l: Sigers, s: Siger) -> Sigers
     ensures { λ r. ⌜ r ≡ pushed l s ⌝ }
 {
@@ -69,6 +71,7 @@ fn none_yet() -> Tally
     Tally { seen, counted }
 }
 
+// The counting step. A copy is kept among the receipts too; it changes no place.
 fn step(t: Tally, s: Siger, witnesses: usize) -> Tally
     ensures { λ r. ⌜ r ≡ stepOf witnesses t s ⌝ }
 {
@@ -79,6 +82,7 @@ fn step(t: Tally, s: Siger, witnesses: usize) -> Tally
     Tally { seen, counted }
 }
 
+// Shape before the count, and also where toad is 0.
 fn conclude(t: Tally, toad: u32) -> Answer
     ensures { λ r. ⌜ r ≡ concluded toad t ⌝ }
 {
