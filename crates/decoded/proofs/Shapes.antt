@@ -9,9 +9,8 @@ use native.Mathlib.Omega.{arith}
 use lib.Dec.{leb, eqb}
 use lib.ListN.{length, take, drop, replicate}
 use borrow.Author.Tests.{le-leb, leb-true}
-use Rattle.lists.specs.Lists.{pick, both, either, all, padded, sameNumbers}
+use Rattle.lists.specs.Lists.{pick, either, all, padded, sameNumbers}
 use Rattle.lists.proofs.Padding.{padded-used, padded-unused}
-use Rattle.number.specs.declared.Number.{Number}
 use Rattle.answer.specs.Answer.{firstFault}
 use Rattle.item.specs.declared.Item.{Item}
 use Rattle.item.specs.declared.Kind.{Kind}
@@ -39,10 +38,10 @@ use Rattle.event.specs.declared.Event.{Event}
 use Rattle.state.specs.declared.KeyState.{KeyState}
 use Rattle.shape.specs.Event.{firstHead, laterHead, ownShape, nextShape, bodyShape, signedShape, eventShape}
 use Rattle.shape.specs.State.{latestShape, stateHead, stateTail, stateShape}
-use Rattle.format.specs.Parse.{Parse, got, bad, bind, _>>=_, byteAt, numAt, rawAt, classed, manyAt, listAt, ended}
+use Rattle.format.specs.Parse.{Parse, got, bad, byteAt, numAt, rawAt, manyAt, listAt}
 use Rattle.format.specs.Fields.{snAt, itemAt, itemsAt, traitAt, configAt, flagAt, simple, weighted, sizesAt, total, weightAt, clausesAt, thresholdAs, thresholdAt, ondexAt, sigerAt, sigersAt}
 use Rattle.layout.specs.Records.{firstHeadAt, laterHeadAt, authorityAt, commitmentAt, tailAt, inceptionBodyAt, inceptionAt, rotationBodyAt, rotationAt, interactionAt, noBody, delegated, latestAt, snapshotAt}
-use Rattle.layout.specs.Records.{Content, event, snapshot, refusal, asEvent, asSnapshot, contentOf}
+use Rattle.layout.specs.Records.{Content, event, refusal, asEvent, asSnapshot, contentOf}
 use Rattle.decoded.specs.Decoded.{Shaped}
 use Rattle.decoded.proofs.Gives.{Outcome, Gives, Some, Each, Many, Few, each-all, gives-then, gives-weaker, gives-got, gives-bad, gives-pick, gives-classed, gives-ended, gives-byte, gives-number, gives-raw, gives-many, gives-list}
 

@@ -1,7 +1,7 @@
 -- The numbers that are read from bytes fit their words, and the arrays have their full length. Assumes nothing.
 --     gives-..         one line a field, then the groups and the records
 --     decoded-real     of every mark and every body
-use mathlib.Core.Path.{_≡_, refl, sym, ap, _∙_}
+use mathlib.Core.Path.{_≡_, refl}
 use mathlib.Core.Bool.{Bool, true, false}
 use mathlib.Core.List.{List, [], _∷_}
 use Prim.Native.Nat.{ℕ, zero, suc, _+_, _*_, _^_, _≤_, _<_}
@@ -19,7 +19,6 @@ use Rattle.item.specs.Item.{fitsOf}
 use Rattle.items.specs.Items.{packed}
 use Rattle.config.specs.declared.Config.{Config}
 use Rattle.config.specs.Config.{packedTraits}
-use Rattle.threshold.specs.declared.Threshold.{Threshold}
 use Rattle.authority.specs.declared.Authority.{Authority}
 use Rattle.authority.specs.declared.Commitment.{Commitment}
 use Rattle.event.specs.declared.Ilk.{Ilk}
@@ -31,20 +30,20 @@ use Rattle.state.specs.declared.KeyState.{KeyState}
 use Rattle.format.specs.Parse.{Parse, got, bad, byteAt, beFrom, numAt, rawAt, manyAt, listAt}
 use Rattle.format.specs.Fields.{snAt, itemAt, itemsAt, traitAt, configAt, flagAt, simple, weighted, total, weightAt, clausesAt, thresholdAs, thresholdAt, sigersAt}
 use Rattle.layout.specs.Records.{firstHeadAt, laterHeadAt, authorityAt, commitmentAt, tailAt, inceptionBodyAt, inceptionAt, rotationBodyAt, rotationAt, interactionAt, noBody, delegated, latestAt, snapshotAt}
-use Rattle.layout.specs.Records.{Content, event, snapshot, refusal, asEvent, asSnapshot, contentOf}
+use Rattle.layout.specs.Records.{Content, event, refusal, asEvent, asSnapshot, contentOf}
 use Rattle.snapshot.proofs.Real.{Words, RealItems, RealThreshold, RealState}
-use Rattle.decoded.proofs.Gives.{Outcome, Gives, Some, Many, Few, outcome-pick, gives-then, gives-weaker, gives-got, gives-bad, gives-classed, gives-ended, gives-byte, gives-many, gives-list}
+use Rattle.decoded.proofs.Gives.{Outcome, Gives, Some, Many, Few, outcome-pick, gives-then, gives-got, gives-bad, gives-classed, gives-ended, gives-byte, gives-many, gives-list}
 use Rattle.decoded.proofs.Shapes.{Trait, Latest, GoodSigers, Clauses, gives-trait, gives-flag, gives-latest, gives-clauses, gives-sigers}
 use Rattle.resume.specs.Resume.{Bytes}
 use Rattle.resume.proofs.Real.{RealHead, RealBody, RealEvent, Real, Raw, RealWeight, real-packed, real-simple, real-weighted, real-no-head, real-no-body}
 
 -- ---- parts of byte strings
-bytes-take : (n : ℕ) (s : List ℕ) → Bytes s → Bytes (take n s)
+pub bytes-take : (n : ℕ) (s : List ℕ) → Bytes s → Bytes (take n s)
 bytes-take zero s b = tt
 bytes-take (suc n) [] b = tt
 bytes-take (suc n) (x ∷ s) b = (b .0, bytes-take n s (b .1))
 
-bytes-drop : (n : ℕ) (s : List ℕ) → Bytes s → Bytes (drop n s)
+pub bytes-drop : (n : ℕ) (s : List ℕ) → Bytes s → Bytes (drop n s)
 bytes-drop zero s b = b
 bytes-drop (suc n) [] b = tt
 bytes-drop (suc n) (x ∷ s) b = bytes-drop n s (b .1)
@@ -54,7 +53,7 @@ be-below : (a : ℕ) (xs : List ℕ) → Bytes xs → beFrom a xs < (a + 1) * 25
 unfolding beFrom
 be-below a [] b = omega arith
 be-below a (x ∷ xs) b =
-    let x-small : x < 256 = b .0 in
+    let small = b .0 in
     let rest : beFrom (a * 256 + x) xs < (a * 256 + x + 1) * 256 ^ length xs = be-below (a * 256 + x) xs (b .1) in
     let most : (a * 256 + x + 1) * 256 ^ length xs ≤ (a + 1) * 256 * 256 ^ length xs = mul-le-mul-right (256 ^ length xs) (omega arith) in
     let power : (a + 1) * 256 * 256 ^ length xs ≡ (a + 1) * 256 ^ suc (length xs) = rw (pow-suc, mul-comm (256 ^ length xs) 256) (mul-assoc (a + 1) 256 (256 ^ length xs)) in

@@ -4,16 +4,15 @@
 use mathlib.Core.Path.{_≡_, refl}
 use mathlib.Core.Bool.{true}
 use mathlib.Core.List.{List, [], _∷_, _++_}
-use Prim.Native.Nat.{ℕ, zero, suc, _+_, _-_, _≤_, _<_, _^_}
+use Prim.Native.Nat.{ℕ, zero, suc, _-_, _≤_, _<_, _^_}
 use native.Mathlib.Omega.{arith}
-use lib.ListN.{length, replicate, take}
+use lib.ListN.{length, replicate}
 use Rattle.lists.specs.Lists.{padded}
 use Rattle.lists.proofs.Padding.{padded-length}
 use Rattle.item.specs.declared.Item.{Item}
 use Rattle.item.specs.Item.{zeroItem}
 use Rattle.items.specs.declared.Items.{Items}
 use Rattle.items.specs.Items.{packed, listed}
-use Rattle.config.specs.Config.{packedTraits}
 use Rattle.weight.specs.declared.Weight.{Weight}
 use Rattle.format.specs.Fields.{simple, weighted}
 use Rattle.event.specs.declared.Head.{Head}
@@ -85,7 +84,7 @@ real-listed l r = each-from Raw (listed l) (each-take Raw (l .count) (l .at) (r 
 abbrev pub RealWeight : Weight → Type 0
 RealWeight w = Words (w .num) (w .den)
 
-no-words : Words 0 0
+pub no-words : Words 0 0
 no-words = (omega arith, omega arith)
 
 abbrev noWeight : Weight
