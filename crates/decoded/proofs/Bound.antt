@@ -3,8 +3,8 @@
 --     local-..          how wide a field is at most, one line a field, then the groups
 --     longest-..        the longest bodies
 --     first-bytes       of every mark and every body
-use mathlib.Core.Path.{_≡_, refl, sym, ap, _∙_}
-use mathlib.Core.Bool.{Bool, true, false}
+use mathlib.Core.Path.{_≡_}
+use mathlib.Core.Bool.{Bool}
 use mathlib.Core.List.{List, [], _∷_}
 use Prim.Native.Nat.{ℕ, zero, suc, _+_, _*_, _≤_}
 use native.Mathlib.Nat.{mul-le-mul-right}
@@ -12,7 +12,7 @@ use native.Mathlib.Omega.{arith}
 use lib.Dec.{leb, eqb}
 use lib.ListN.{length, take}
 use borrow.Author.Tests.{leb-true}
-use Rattle.lists.specs.Lists.{pick, either}
+use Rattle.lists.specs.Lists.{either}
 use Rattle.item.specs.declared.Kind.{Kind}
 use Rattle.item.specs.declared.Kind.the-variants.{Prefix, Key, Said}
 use Rattle.item.specs.Item.{fitsOf}
@@ -24,7 +24,7 @@ use Rattle.event.specs.declared.Body.{Body}
 use Rattle.event.specs.declared.Event.{Event}
 use Rattle.state.specs.declared.KeyState.{KeyState}
 use Rattle.threshold.specs.declared.Threshold.{Threshold}
-use Rattle.format.specs.Parse.{Parse, got, bad, byteAt, numAt, rawAt, manyAt, listAt}
+use Rattle.format.specs.Parse.{Parse, got, byteAt, numAt, rawAt, manyAt, listAt}
 use Rattle.format.specs.Fields.{snAt, itemAt, itemsAt, traitAt, configAt, flagAt, sizesAt, total, weightAt, clausesAt, thresholdAs, thresholdAt, ondexAt, sigerAt, sigersAt}
 use Rattle.layout.specs.Records.{firstHeadAt, laterHeadAt, authorityAt, commitmentAt, tailAt, inceptionBodyAt, inceptionAt, rotationBodyAt, rotationAt, interactionAt, noBody, latestAt, snapshotAt, contentOf}
 use Rattle.decoded.proofs.Shapes.{Clauses, gives-clauses}

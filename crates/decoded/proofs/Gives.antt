@@ -63,7 +63,7 @@ module _ {A : Type 0} (P : A → Type 0) where
   gives-bad r h g at = (h, g)
 
   -- what is tested holds of what is got
-  outcome-pick : (b : Bool) (x y : Parse A) → (b ≡ true → Outcome P x) → Outcome P y → Outcome P (pick b x y)
+  pub outcome-pick : (b : Bool) (x y : Parse A) → (b ≡ true → Outcome P x) → Outcome P y → Outcome P (pick b x y)
   outcome-pick true x y p q = p refl
   outcome-pick false x y p q = q
 

@@ -9,9 +9,8 @@ use native.Mathlib.Omega.{arith}
 use lib.Dec.{leb, eqb}
 use lib.ListN.{length, take, drop, replicate}
 use borrow.Author.Tests.{le-leb, leb-true}
-use Rattle.lists.specs.Lists.{pick, both, either, all, padded, sameNumbers}
+use Rattle.lists.specs.Lists.{pick, either, all, padded, sameNumbers}
 use Rattle.lists.proofs.Padding.{padded-used, padded-unused}
-use Rattle.number.specs.declared.Number.{Number}
 use Rattle.answer.specs.Answer.{firstFault}
 use Rattle.item.specs.declared.Item.{Item}
 use Rattle.item.specs.declared.Kind.{Kind}
@@ -39,10 +38,10 @@ use Rattle.event.specs.declared.Event.{Event}
 use Rattle.state.specs.declared.KeyState.{KeyState}
 use Rattle.shape.specs.Event.{firstHead, laterHead, ownShape, nextShape, bodyShape, signedShape, eventShape}
 use Rattle.shape.specs.State.{latestShape, stateHead, stateTail, stateShape}
-use Rattle.format.specs.Parse.{Parse, got, bad, bind, _>>=_, byteAt, numAt, rawAt, classed, manyAt, listAt, ended}
+use Rattle.format.specs.Parse.{Parse, got, bad, byteAt, numAt, rawAt, manyAt, listAt}
 use Rattle.format.specs.Fields.{snAt, itemAt, itemsAt, traitAt, configAt, flagAt, simple, weighted, sizesAt, total, weightAt, clausesAt, thresholdAs, thresholdAt, ondexAt, sigerAt, sigersAt}
 use Rattle.layout.specs.Records.{firstHeadAt, laterHeadAt, authorityAt, commitmentAt, tailAt, inceptionBodyAt, inceptionAt, rotationBodyAt, rotationAt, interactionAt, noBody, delegated, latestAt, snapshotAt}
-use Rattle.layout.specs.Records.{Content, event, snapshot, refusal, asEvent, asSnapshot, contentOf}
+use Rattle.layout.specs.Records.{Content, event, refusal, asEvent, asSnapshot, contentOf}
 use Rattle.decoded.specs.Decoded.{Shaped}
 use Rattle.decoded.proofs.Gives.{Outcome, Gives, Some, Each, Many, Few, each-all, gives-then, gives-weaker, gives-got, gives-bad, gives-pick, gives-classed, gives-ended, gives-byte, gives-number, gives-raw, gives-many, gives-list}
 
@@ -73,7 +72,7 @@ gives-sn : (s : List ℕ) → Gives Some (snAt s)
 unfolding snAt
 gives-sn s = gives-then Some Some (numAt 8 s) _ (gives-number 8 s) (λ a u. gives-then Some Some (numAt 8 s) _ (gives-number 8 s) (λ b v. gives-got Some _ tt))
 
-abbrev Fits : Kind → Item → Type 0
+abbrev pub Fits : Kind → Item → Type 0
 Fits k x = itemFits k x ≡ true
 
 pub gives-item : (k : Kind) (s : List ℕ) → Gives (Fits k) (itemAt k s)
@@ -86,7 +85,7 @@ gives-item k s =
 abbrev GoodItems : Kind → Items → Type 0
 GoodItems k l = items.shapeOf k l ≡ 0
 
-items-shape : (k : Kind) (xs : List Item) → Few (Fits k) 16 xs → GoodItems k (items.packed xs)
+pub items-shape : (k : Kind) (xs : List Item) → Few (Fits k) 16 xs → GoodItems k (items.packed xs)
 unfolding items.shapeOf
 items-shape k xs p = padded-shape (itemFits k) isZero zeroItem zero-item 16 xs (each-all (itemFits k) xs (p .0)) (p .1)
 
@@ -96,10 +95,10 @@ gives-items k s =
     gives-then (Few (Fits k) 16) (GoodItems k) (listAt (itemAt k s) 16 s) _ (gives-list (Fits k) (itemAt k s) (gives-item k s) 16 s)
     (λ xs p. gives-got (GoodItems k) (items.packed xs) (items-shape k xs p))
 
-abbrev Trait : ℕ → Type 0
+abbrev pub Trait : ℕ → Type 0
 Trait t = config.isTrait t ≡ true
 
-gives-trait : (s : List ℕ) → Gives Trait (traitAt s)
+pub gives-trait : (s : List ℕ) → Gives Trait (traitAt s)
 unfolding traitAt
 gives-trait s = gives-then Some Trait (byteAt s) _ (gives-byte s) (λ t u. gives-classed Trait (config.isTrait t) t (λ e. e))
 
@@ -116,7 +115,7 @@ gives-config s =
     gives-then (Few Trait 8) GoodConfig (listAt (traitAt s) 8 s) _ (gives-list Trait (traitAt s) (gives-trait s) 8 s)
     (λ ts p. gives-got GoodConfig (config.packedTraits ts) (config-shape ts p))
 
-gives-flag : (s : List ℕ) → Gives Some (flagAt s)
+pub gives-flag : (s : List ℕ) → Gives Some (flagAt s)
 unfolding flagAt
 gives-flag s = gives-then Some Some (byteAt s) _ (gives-byte s) (λ b u. gives-classed Some (leb b 1) (eqb b 1) (λ e. tt))
 
@@ -208,7 +207,7 @@ gives-siger s =
     (λ verified y. gives-then Some OndexFits (flagAt s) _ (gives-flag s)
     (λ matches z. gives-got OndexFits _ o)))))))
 
-abbrev GoodSigers : Sigers → Type 0
+abbrev pub GoodSigers : Sigers → Type 0
 GoodSigers l = verification.shapeOf l ≡ 0
 
 sigers-shape : (xs : List Siger) → Few OndexFits 48 xs → GoodSigers (verification.packedSigers xs)
@@ -222,12 +221,12 @@ gives-sigers s =
     (λ xs p. gives-got GoodSigers (verification.packedSigers xs) (sigers-shape xs p))
 
 -- ---- the groups: no fault in any of their fields
-clear : (ns : List ℕ) → Each (λ n. n ≡ 0) ns → firstFault ns ≡ 0
+pub clear : (ns : List ℕ) → Each (λ n. n ≡ 0) ns → firstFault ns ≡ 0
 unfolding firstFault
 clear [] e = refl
 clear (n ∷ ns) e = let h : n ≡ 0 = e .0 in rw h (clear ns (e .1))
 
-item-shape : (k : Kind) (x : Item) → Fits k x → itemShape k x ≡ 0
+pub item-shape : (k : Kind) (x : Item) → Fits k x → itemShape k x ≡ 0
 item-shape k x e = rw e
 
 abbrev GoodFirst : Head → Type 0
@@ -344,10 +343,10 @@ gives-interaction s =
 abbrev GoodState : KeyState → Type 0
 GoodState s = stateShape s ≡ 0
 
-abbrev Latest : ℕ → Type 0
+abbrev pub Latest : ℕ → Type 0
 Latest n = latestShape n ≡ 0
 
-gives-latest : (s : List ℕ) → Gives Latest (latestAt s)
+pub gives-latest : (s : List ℕ) → Gives Latest (latestAt s)
 unfolding latestAt
 gives-latest s = gives-then Some Latest (byteAt s) _ (gives-byte s) (λ n u. gives-classed Latest (leb n 2) n (λ e. rw e))
 

@@ -1,5 +1,5 @@
 -- What can be said of every content: "Numbers 1 to 4 come before all others", so what is read has no fault of shape.
-use Prim.Native.Nat.{ℕ, _≤_}
+use Prim.Native.Nat.{_≤_}
 use mathlib.Core.Path.{_≡_}
 use Rattle.shape.specs.Event.{eventShape}
 use Rattle.shape.specs.State.{stateShape}
