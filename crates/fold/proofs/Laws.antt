@@ -7,6 +7,7 @@ use lib.ListN.{length}
 use borrow.Author.Tests.{eq-eqb}
 use Rattle.lists.specs.Lists.{pick}
 use Rattle.lists.proofs.Facts.{clash}
+use Rattle.answer.specs.declared.Answer.{Answer}
 use Rattle.answer.specs.Answer.{refused, accepted}
 use Rattle.answer.proofs.Laws.{Clean}
 use Rattle.item.specs.declared.Item.{Item}
@@ -15,6 +16,8 @@ use Rattle.member_set.specs.declared.Change.{Change}
 use Rattle.member_set.specs.Members.{changeOf}
 use Rattle.event.specs.declared.Ilk.{Ilk}
 use Rattle.event.specs.declared.Ilk.the-variants.{Inception, Rotation, Interaction, DelegatedInception, DelegatedRotation}
+use Rattle.event.specs.declared.Head.{Head}
+use Rattle.event.specs.declared.Body.{Body}
 use Rattle.event.specs.declared.Event.{Event}
 use Rattle.state.specs.declared.KeyState.{KeyState}
 use Rattle.state.specs.declared.Holder.{Holder}
@@ -22,6 +25,7 @@ use Rattle.state.specs.State.{isHeld, holding, rotated, stepped}
 use Rattle.rules.specs.Rules.{newWitnesses}
 use Rattle.rules.proofs.Laws.{room}
 use Rattle.ingest.specs.Judgement.{settled}
+use Rattle.ingest.proofs.Laws.{stays}
 use Rattle.fold.specs.Fold.{foldable, foldedAs, foldState}
 
 abbrev foldOf : Ilk → Holder → Event → Rattle.ingest.specs.declared.Offered.Offered
@@ -55,26 +59,27 @@ clean-fold Interaction h e = by-test (isHeld h)
 clean-fold DelegatedInception h e = λ p. clash (sym p)
 clean-fold DelegatedRotation h e = λ p. clash (sym p)
 
-module _ (h : Holder) (e : Event) where
-  pub none-to-roll : isHeld h ≡ false → record { answer = refused 8 0 0; holder = h } ≡ foldOf Rotation h e
-  none-to-roll p = rw p
+-- "RO and IX on nothing 8"
+pub none-held : (h h' : Holder) (x : Answer) → isHeld h ≡ false → record { answer = refused 8 0 0; holder = h } ≡ settled h (pick (isHeld h) x (refused 8 0 0)) h'
+none-held h h' x p = rw p
 
-  pub none-to-step : isHeld h ≡ false → record { answer = refused 8 0 0; holder = h } ≡ foldOf Interaction h e
-  none-to-step p = rw p
+pub steps : (h : Holder) (e : Head) (s : KeyState) → isHeld h ≡ true → s ≡ stepped (h .state) e
+    → record { answer = accepted; holder = holding s } ≡ settled h (pick (isHeld h) accepted (refused 8 0 0)) (holding (stepped (h .state) e))
+steps h e s p q = rw (p, q)
 
-  pub rolled-on : isHeld h ≡ true
-      → settled h (changeOf (newWitnesses (h .state) (e .body)) .answer) (holding (rotated (h .state) (e .head) (e .body) (packed (newWitnesses (h .state) (e .body))))) ≡ foldOf Rotation h e
-  rolled-on p = rw p
+module _ (h : Holder) (e : Head) (b : Body) (held : isHeld h ≡ true) (d : Change) (ed : d ≡ changeOf (newWitnesses (h .state) b)) where
+  -- the new list has none, or its state
+  pub overfull : (d .answer .number ≡ 0 → ⊥)
+      → record { answer = d .answer; holder = h } ≡ settled h (pick (isHeld h) (changeOf (newWitnesses (h .state) b) .answer) (refused 8 0 0)) (holding (rotated (h .state) e b (packed (newWitnesses (h .state) b))))
+  overfull ne =
+      let stay = stays h (d .answer) (changeOf (newWitnesses (h .state) b) .answer) (holding (rotated (h .state) e b (packed (newWitnesses (h .state) b)))) (ap (λ (c : Change). c .answer) ed) ne in
+      rw held stay
 
-  pub stepped-on : (s : KeyState) → isHeld h ≡ true → s ≡ stepped (h .state) (e .head) → record { answer = accepted; holder = holding s } ≡ foldOf Interaction h e
-  stepped-on s p q = rw (p, q)
-
-  -- the new list has room: the state it makes
-  pub rolls : (d : Change) (s : KeyState) → d ≡ changeOf (newWitnesses (h .state) (e .body)) → d .answer .number ≡ 0 → s ≡ rotated (h .state) (e .head) (e .body) (d .list)
-      → record { answer = accepted; holder = holding s } ≡ settled h (changeOf (newWitnesses (h .state) (e .body)) .answer) (holding (rotated (h .state) (e .head) (e .body) (packed (newWitnesses (h .state) (e .body)))))
-  rolls d s ed z es =
-      let new = newWitnesses (h .state) (e .body) in
+  pub rolls : (s : KeyState) → d .answer .number ≡ 0 → s ≡ rotated (h .state) e b (d .list)
+      → record { answer = accepted; holder = holding s } ≡ settled h (pick (isHeld h) (changeOf (newWitnesses (h .state) b) .answer) (refused 8 0 0)) (holding (rotated (h .state) e b (packed (newWitnesses (h .state) b))))
+  rolls s z es =
+      let new = newWitnesses (h .state) b in
       let zn : changeOf new .answer .number ≡ 0 = ap (λ (c : Change). c .answer .number) (sym ed) ∙ z in
       let a : changeOf new .answer ≡ accepted = clean-change new (eq-eqb _ 0 zn) in
       let l : d .list ≡ packed new = ap (λ (c : Change). c .list) ed ∙ room new zn in
-      rw (a, es, l)
+      rw (held, a, es, l)

@@ -2,13 +2,16 @@
 ghost use mathlib.Core.Path.{_≡_};
 ghost use Rattle.answer.specs.Answer.{accepted, refused};
 ghost use Rattle.items.specs.Items.{packed};
-ghost use Rattle.state.specs.State.{holding, genesis, rotated, stepped};
+ghost use Rattle.lists.specs.Lists.{pick};
+ghost use Rattle.state.specs.State.{isHeld, holding, genesis, rotated, stepped};
 ghost use Rattle.rules.specs.Rules.{newWitnesses};
 ghost use Rattle.member_set.specs.Members.{changeOf};
 ghost use Rattle.ingest.specs.Judgement.{settled};
 ghost use Rattle.fold.specs.Fold.{foldable, foldState, folded};
 use answer::Answer;
+use event::Body;
 use event::Event;
+use event::Head;
 use event::Ilk;
 use ingest::Offered;
 use state::Holder;
@@ -35,22 +38,23 @@ fn take(s: KeyState) -> Offered
     }
 }
 
-// An inception starts afresh, at its own number.
-fn start(e: Event) -> Offered
-    ensures { λ r. ⌜ r ≡ record { answer = accepted; holder = holding (genesis (e .head) (e .body)) } ⌝ }
+// "IC starts afresh, even over a state": at its own number.
+pub fn start(h: Head, b: Body) -> Offered
+    ensures { λ r. ⌜ r ≡ record { answer = accepted; holder = holding (genesis h b) } ⌝ }
 {
-    let h = e.head;
-    let b = e.body;
     let sn = h.sn;
     let s = state::begin(sn, h, b);
     take(s)
 }
 
-fn roll(before: Holder, e: Event) -> Offered
-    ensures { λ r. ⌜ r ≡ settled before (changeOf (newWitnesses (before .state) (e .body)) .answer) (holding (rotated (before .state) (e .head) (e .body) (packed (newWitnesses (before .state) (e .body))))) ⌝ }
+// "RO and IX on nothing 8, an overfull list 38."
+pub fn roll(before: Holder, h: Head, b: Body) -> Offered
+    ensures { λ r. ⌜ r ≡ settled before (pick (isHeld before) (changeOf (newWitnesses (before .state) b) .answer) (refused 8 0 0)) (holding (rotated (before .state) h b (packed (newWitnesses (before .state) b)))) ⌝ }
 {
-    let h = e.head;
-    let b = e.body;
+    let held = before.held;
+    if !held {
+        return refuse(before, 8);
+    }
     let old = before.state;
     let witnessing = old.witnessing;
     let current = witnessing.witnesses;
@@ -69,28 +73,28 @@ fn roll(before: Holder, e: Event) -> Offered
     take(s)
 }
 
+pub fn step(before: Holder, h: Head) -> Offered
+    ensures { λ r. ⌜ r ≡ settled before (pick (isHeld before) accepted (refused 8 0 0)) (holding (stepped (before .state) h)) ⌝ }
+{
+    let held = before.held;
+    if !held {
+        return refuse(before, 8);
+    }
+    let old = before.state;
+    let s = state::step(old, h);
+    take(s)
+}
+
 fn fold_as(before: Holder, e: Event) -> Offered
     ensures { λ r. ⌜ r ≡ settled before (foldable (e .ilk) before e) (holding (foldState (before .state) e)) ⌝ }
 {
     let ilk = e.ilk;
-    let held = before.held;
+    let h = e.head;
+    let b = e.body;
     match ilk {
-        Ilk::Inception => start(e),
-        Ilk::Rotation => {
-            if !held {
-                return refuse(before, 8);
-            }
-            roll(before, e)
-        }
-        Ilk::Interaction => {
-            if !held {
-                return refuse(before, 8);
-            }
-            let h = e.head;
-            let old = before.state;
-            let s = state::step(old, h);
-            take(s)
-        }
+        Ilk::Inception => start(h, b),
+        Ilk::Rotation => roll(before, h, b),
+        Ilk::Interaction => step(before, h),
         Ilk::DelegatedInception => refuse(before, 6),
         Ilk::DelegatedRotation => refuse(before, 6),
     }

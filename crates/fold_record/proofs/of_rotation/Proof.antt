@@ -1,0 +1,50 @@
+use mathlib.Core.Path.{_≡_, sym, _∙_, ap}
+use Rattle.record.specs.Marks.{eventOf}
+use Rattle.event.specs.declared.Ilk.the-variants.{Rotation}
+use Rattle.fold_record.proofs.Laws.{unread, event-read}
+use borrow.Author.Needs.{needs}
+use Rattle.fold_record.proofs.of_rotation.Statement.{statement}
+use Rattle.fold_record.proofs.of_rotation.Tie as tie
+
+scan-rotation-requires : tie.Need-scan-rotation-requires
+scan-rotation-requires c κs = search needs
+
+enum-known-scan : tie.Need-enum-known-scan
+enum-known-scan c = search needs
+
+enum-told : tie.Need-enum-told
+enum-told c = search needs
+
+refusal-of-requires : tie.Need-refusal-of-requires
+refusal-of-requires c κs = search needs
+
+refuse-requires : tie.Need-refuse-requires
+refuse-requires c κs = search needs
+
+returns : tie.Need-returns
+returns c =
+    let a = c .before .before .before .before .before .before .args in
+    c .refuse .ensures
+    ∙ unread (a .before) (eventOf Rotation (a .s .now)) _ _ (c .before .before .before .before .scan-rotation .ensures .1) _ _ (c .before .before .enum-told .given .1) (c .before .refusal-of .ensures)
+
+roll-requires : tie.Need-roll-requires
+roll-requires c κs = search needs
+
+returns-2 : tie.Need-returns-2
+returns-2 c =
+    let a = c .before .before .before .before .before .before .args in
+    c .roll .ensures
+    ∙ event-read (a .before) (eventOf Rotation (a .s .now)) _ _ (c .before .before .before .before .scan-rotation .ensures .1) _ _ (c .before .before .scan .given .1)
+
+pub of-rotation-spec : {M : Type 1} → statement M
+of-rotation-spec =
+    tie.close
+    (tie.spec
+    scan-rotation-requires
+    enum-known-scan
+    enum-told
+    refusal-of-requires
+    refuse-requires
+    returns
+    roll-requires
+    returns-2)
