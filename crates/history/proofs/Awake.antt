@@ -29,7 +29,8 @@ use Rattle.state.specs.State.{isHeld, noThreshold}
 use Rattle.shape.specs.State.{holderShape}
 use Rattle.rules.specs.Rules.{inception}
 use Rattle.ingest.specs.Judgement.{offered, answerTo, judgement}
-use Rattle.history.specs.History.{nothing, after}
+use Rattle.empty.specs.Empty.{nothing}
+use Rattle.history.specs.History.{after}
 use Rattle.history.proofs.Steps.{moves}
 
 abbrev item : ℕ → Item

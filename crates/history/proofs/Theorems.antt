@@ -14,7 +14,8 @@ use Rattle.answer.specs.Answer.{accepted}
 use Rattle.event.specs.declared.Event.{Event}
 use Rattle.state.specs.declared.Holder.{Holder}
 use Rattle.state.specs.State.{isHeld}
-use Rattle.history.specs.History.{nothing, after, takes, held, kept, answers, foldAll, numbers, countFrom}
+use Rattle.empty.specs.Empty.{nothing}
+use Rattle.history.specs.History.{after, takes, held, kept, answers, foldAll, numbers, countFrom}
 use Rattle.history.proofs.Steps.{stays, fold-same, expects, takes-next, waits-next, takes-zero}
 
 pub held-is-fold : (h : Holder) (es : List Event) → held h es ≡ foldAll h (kept h es)

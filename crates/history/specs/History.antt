@@ -2,20 +2,15 @@
 -- what each was answered, and the unchecked fold of a list.
 use Prim.Native.Nat.{ℕ, _+_}
 use mathlib.Core.List.{List, [], _∷_}
-use mathlib.Core.Bool.{Bool, false}
+use mathlib.Core.Bool.{Bool}
 use Rattle.lists.specs.Lists.{pick}
 use Rattle.number.specs.Number.{value}
 use Rattle.answer.specs.declared.Answer.{Answer}
 use Rattle.answer.specs.Answer.{passes}
 use Rattle.event.specs.declared.Event.{Event}
 use Rattle.state.specs.declared.Holder.{Holder}
-use Rattle.state.specs.State.{noState}
 use Rattle.ingest.specs.Judgement.{offered}
 use Rattle.fold.specs.Fold.{folded}
-
--- a holder of nothing
-abbrev pub nothing : Holder
-nothing = record { held = false; state = noState }
 
 abbrev pub after : Holder → Event → Holder
 after h e = offered h e .holder

@@ -259,10 +259,14 @@ code-snapshot s r g =
     (code-last None (itemAt Said) _ (itemBytes (s .last .said)) (s .last .said) s (code-item Said (s .last .said) (g .established) (r .established))
     (code-ended s))))))))))
 
--- reading back what a held state of good shape was saved as gives the same state
-pub round-trip : (s : KeyState) (vs : List Val) → Is state.the-row s vs → stateShape s ≡ 0 → snapshotAt (bodyBytes s) 0 ≡ got s (length (bodyBytes s))
+-- reading back what a state of good shape was saved as gives the same state
+pub round-trip-real : (s : KeyState) → RealState s → stateShape s ≡ 0 → snapshotAt (bodyBytes s) 0 ≡ got s (length (bodyBytes s))
 unfolding Reads
-round-trip s vs p e =
+round-trip-real s r e =
     let n : 0 + length (bodyBytes s) ≡ length (bodyBytes s) = omega arith in
-    code-snapshot s (real-state s vs p) (good-state s e) (bodyBytes s) 0 [] refl (omega arith) (sym (append-nil (bodyBytes s)))
+    code-snapshot s r (good-state s e) (bodyBytes s) 0 [] refl (omega arith) (sym (append-nil (bodyBytes s)))
     ∙ ap (λ (k : ℕ). got s k) n
+
+-- a state that a program holds is one
+pub round-trip : (s : KeyState) (vs : List Val) → Is state.the-row s vs → stateShape s ≡ 0 → snapshotAt (bodyBytes s) 0 ≡ got s (length (bodyBytes s))
+round-trip s vs p e = round-trip-real s (real-state s vs p) e

@@ -29,7 +29,7 @@ use Rattle.shape.specs.State.{stateHead, stateTail, stateShape}
 use Rattle.snapshot.specs.Bytes.{be, wordsBytes, itemBytes, each, itemsBytes, counted, configBytes, thresholdBytes}
 use Rattle.snapshot.specs.Saved.{pointBytes, groupBytes, headBytes, tailBytes, bodyBytes}
 use Rattle.snapshot.proofs.Shapes.{is-weighted, good-state}
-use Rattle.snapshot.proofs.Real.{RealItems, RealThreshold, real-state}
+use Rattle.snapshot.proofs.Real.{RealItems, RealThreshold, RealState, real-state}
 use Rattle.snapshot.proofs.Size.{items-size, simple-size, weighted-size, group-size, body-size}
 
 items-most : (k : Kind) (l : Items) → RealItems l → items.shapeOf k l ≡ 0 → length (itemsBytes l) ≤ 529
@@ -56,15 +56,17 @@ group-most k l t r q e f =
     let b = threshold-most t q f in
     omega (arith, group-size l t (length (itemsBytes l)) (length (thresholdBytes t)) refl refl)
 
-pub longest : (s : KeyState) (vs : List Val) → Is state.the-row s vs → stateShape s ≡ 0 → length (bodyBytes s) ≤ 2281
-longest s vs p e =
-    let r = real-state s vs p in
+pub longest-real : (s : KeyState) → RealState s → stateShape s ≡ 0 → length (bodyBytes s) ≤ 2281
+longest-real s r e =
     let g = good-state s e in
     let few = config-laws.good (s .config) (g .config) .few in
     let own = group-most _ (s .authority .keys) (s .authority .threshold) (r .keys) (r .own) (g .keys) (g .own) in
     let next = group-most _ (s .commitment .next) (s .commitment .threshold) (r .next) (r .committed) (g .next) (g .committed) in
     let witnesses = items-most _ (s .witnessing .witnesses) (r .witnesses) (g .witnesses) in
     omega (arith, body-size s _ _ _ r few refl refl refl)
+
+pub longest : (s : KeyState) (vs : List Val) → Is state.the-row s vs → stateShape s ≡ 0 → length (bodyBytes s) ≤ 2281
+longest s vs p e = longest-real s (real-state s vs p) e
 
 -- ---- a state with every list full, and 16 clauses of one weight in either threshold
 abbrev of-code : ℕ → Item

@@ -75,7 +75,7 @@ module _ (t : Threshold) (e : shapeOf t ≡ 0) where
       }
 
 -- ---- fields in order: no fault is none in each
-no-fault : (n : ℕ) (ns : List ℕ) → firstFault (n ∷ ns) ≡ 0 → (n ≡ 0) × (firstFault ns ≡ 0)
+pub no-fault : (n : ℕ) (ns : List ℕ) → firstFault (n ∷ ns) ≡ 0 → (n ≡ 0) × (firstFault ns ≡ 0)
 unfolding firstFault
 no-fault n ns e = by-test (eqb n 0) refl
   where

@@ -14,8 +14,9 @@ use Rattle.shape.specs.State.{stateShape}
 use Rattle.layout.specs.Records.{snapshot, record-of, contentOf, firstOf}
 use Rattle.snapshot.specs.Bytes.{be, over}
 use Rattle.snapshot.specs.Saved.{bodyBytes, encoded}
-use Rattle.snapshot.proofs.Back.{round-trip}
-use Rattle.snapshot.proofs.Longest.{longest}
+use Rattle.snapshot.proofs.Real.{RealState, real-state}
+use Rattle.snapshot.proofs.Back.{round-trip-real}
+use Rattle.snapshot.proofs.Longest.{longest-real}
 
 -- the mark, two bytes of a length, and a body of that length behind them
 whole : (hi lo : ℕ) (body rest : List ℕ) → hi * 256 + lo ≡ length body
@@ -35,16 +36,20 @@ be-two : (n : ℕ) → be 2 n ≡ n / 256 % 256 ∷ n % 256 ∷ []
 unfolding be
 be-two n = refl
 
-pub read-back : (s : KeyState) (vs : List Val) (rest : List ℕ) → Is state.the-row s vs → stateShape s ≡ 0
+pub read-back-real : (s : KeyState) (rest : List ℕ) → RealState s → stateShape s ≡ 0
     → firstOf (encoded s ++ rest) ≡ record-of 0x4B53 (snapshot s) (length (encoded s))
 unfolding encoded contentOf
-read-back s vs rest p e =
+read-back-real s rest r e =
     let n = length (bodyBytes s) in
-    let h : n ≤ 2281 = longest s vs p e in
-    let r = round-trip s vs p e in
+    let h : n ≤ 2281 = longest-real s r e in
+    let b = round-trip-real s r e in
     let f : 4 + n ≡ suc (suc (suc (suc n))) = omega arith in
     rw be-two
-    (whole (n / 256 % 256) (n % 256) (bodyBytes s) rest (two n (omega arith)) ∙ rw (r, f))
+    (whole (n / 256 % 256) (n % 256) (bodyBytes s) rest (two n (omega arith)) ∙ rw (b, f))
+
+pub read-back : (s : KeyState) (vs : List Val) (rest : List ℕ) → Is state.the-row s vs → stateShape s ≡ 0
+    → firstOf (encoded s ++ rest) ≡ record-of 0x4B53 (snapshot s) (length (encoded s))
+read-back s vs rest p e = read-back-real s rest (real-state s vs p) e
 
 -- so it is in the buffer after saving
 pub saved-back : (s : KeyState) (vs : List Val) (buf : List ℕ) → Is state.the-row s vs → stateShape s ≡ 0

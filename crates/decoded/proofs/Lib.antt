@@ -1,0 +1,4 @@
+pub mod Gives
+pub mod Shapes
+pub mod Looks
+pub mod Bound

@@ -1,0 +1,36 @@
+-- Steps on the way to a body's answer, for a holder and a content of good shape. proofs/Laws has that they lead to `taken`.
+use Prim.Native.Nat.{ℕ}
+use mathlib.Core.List.{List}
+use Rattle.lists.specs.Lists.{pick}
+use Rattle.answer.specs.Answer.{refused, accepted}
+use Rattle.event.specs.declared.Event.{Event}
+use Rattle.state.specs.declared.Holder.{Holder}
+use Rattle.state.specs.State.{isHeld, mayMove, holding}
+use Rattle.ingest.specs.declared.Offered.{Offered}
+use Rattle.ingest.specs.Judgement.{settled, judgement, nextState}
+use Rattle.layout.specs.Records.{Content, event, snapshot, refusal}
+use Rattle.record.specs.declared.EventScan as E
+use Rattle.record.specs.declared.StateScan as S
+use Rattle.receive.specs.Received.{turnedAway}
+
+-- by where the holder stands: nothing held, held and closed (10), held and live; 0 where the event's own checks follow
+unfoldable pub gateOf : Holder → ℕ → ℕ → ℕ
+gateOf h empty live = pick (isHeld h) (pick (mayMove (h .state)) live 10) empty
+
+-- an event's judgement, with no shape looked at
+abbrev pub judged : Holder → Event → Offered
+judged h e = settled h (judgement h e) (holding (nextState (h .state) e))
+
+abbrev pub contentJudged : Holder → Content → Offered
+contentJudged h (event e) = judged h e
+contentJudged h (snapshot s) = settled h (pick (isHeld h) (refused 5 0 0) accepted) (holding s)
+contentJudged h (refusal n) = turnedAway h n
+
+-- the refusal that a scan stopped with; 3 for one that did not stop, which is never asked
+abbrev pub refusalOfEvent : E.EventScan → ℕ
+refusalOfEvent (E.the-variants.Of m n) = 3
+refusalOfEvent (E.the-variants.No k) = k
+
+abbrev pub refusalOfState : S.StateScan → ℕ
+refusalOfState (S.the-variants.Of m n) = 3
+refusalOfState (S.the-variants.No k) = k

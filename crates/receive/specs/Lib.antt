@@ -1,0 +1,2 @@
+pub mod Received
+pub mod Gate

@@ -1,0 +1,4 @@
+pub mod Real
+pub mod Decoded
+pub mod Stays
+pub mod Theorems
