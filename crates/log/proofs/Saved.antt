@@ -26,7 +26,8 @@ use Rattle.resume.proofs.Real.{Real}
 use Rattle.resume.proofs.Decoded.{decoded-real, bytes-drop}
 use Rattle.resume.proofs.Stays.{good-stays, real-stays, holding-shape}
 use Rattle.resume.proofs.Theorems.{Sound, sound-nothing, body-bytes, reads-back}
-use Rattle.receive.specs.Received.{turnedAway, taken, unlessBad, received}
+use Rattle.ingest.specs.Judgement.{turnedAway}
+use Rattle.receive.specs.Received.{taken, unlessBad, received}
 use Rattle.log.specs.Log.{nextIn, recordsFrom, recordsOf, after, held, answers}
 
 -- ---- the records of a byte string are well shaped, with numbers that fit

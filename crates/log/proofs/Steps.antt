@@ -25,7 +25,8 @@ use Rattle.decoded.specs.Decoded.{Shaped}
 use Rattle.decoded.proofs.Shapes.{decoded-shape}
 use Rattle.decoded.proofs.Gives.{Each}
 use Rattle.layout.specs.Records.{Content, event, snapshot, refusal, contentOf, First, record-of, truncated, firstOf, markOf, bodyLength}
-use Rattle.receive.specs.Received.{turnedAway, taken, unlessBad}
+use Rattle.ingest.specs.Judgement.{turnedAway}
+use Rattle.receive.specs.Received.{taken, unlessBad}
 use Rattle.log.specs.Log.{nextIn, recordsFrom, given, after, answerAt, takes, foldStep, RunsOn}
 
 -- ---- a refusal leaves the holder as it came
