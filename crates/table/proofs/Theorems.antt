@@ -1,7 +1,8 @@
 -- Demand 1: "Every byte string and every record gets an answer from document 01's table", whatever is held. Assumes nothing.
 --     in-table             the one-record call on any byte string
 --     log-in-table         every record of a byte string, one after the other
---     event-in-table       an event struct; fold-in-table: in the unchecked fold; saved-in-table: a snapshot saved
+--     event-in-table       an event struct; fold-in-table: the same in the unchecked fold
+--     saving-in-table      a snapshot saved: 41 too, and neither 39 nor 40; saved-in-table: at most 41
 --     never-29             29 is in the table, and no byte string gets it (event-never-29: no event struct either)
 use mathlib.Core.Path.{_≡_, refl}
 use mathlib.Core.Logic.{inl, inr, ⊎-elim}
