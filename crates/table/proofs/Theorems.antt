@@ -26,7 +26,8 @@ use Rattle.decoded.specs.Decoded.{Shaped}
 use Rattle.decoded.proofs.Shapes.{decoded-shape}
 use Rattle.decoded.proofs.Gives.{Each}
 use Rattle.layout.specs.Records.{Content, event, snapshot, refusal, contentOf, First, record-of, truncated, firstOf, markOf, bodyLength}
-use Rattle.receive.specs.Received.{turnedAway, taken, unlessBad, firstTaken, received}
+use Rattle.ingest.specs.Judgement.{turnedAway}
+use Rattle.receive.specs.Received.{taken, unlessBad, firstTaken, received}
 use Rattle.snapshot.specs.Bytes.{over}
 use Rattle.snapshot.specs.Saved.{saved, encoded}
 use Rattle.log.specs.Log.{recordsOf, after, answers}
