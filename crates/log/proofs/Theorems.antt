@@ -4,12 +4,16 @@
 --     no-gap           the accepted events' numbers run on without a gap: from an empty holder 0, 1, 2, ..
 --     struck-out       with the refused ones struck out the same is held, so every later answer is the same (later-answers),
 --     all-accepted     and each of the others is accepted again
+--     by-parts, first-bytes-decide, cut-short     what a reader may do that holds only a part of a long record
 use mathlib.Core.Path.{_≡_, refl, sym, _∙_, ap}
 use mathlib.Core.Bool.{Bool, true, false}
 use mathlib.Core.List.{List, [], _∷_}
-use Prim.Native.Nat.{ℕ}
-use lib.ListN.{length, replicate}
-use Rattle.lists.specs.Lists.{pick}
+use Prim.Native.Nat.{ℕ, _+_, _≤_}
+use borrow.Author.Tests.{le-leb, lt-leb, ltb-true, ltb-false}
+use lib.Dec.{ltb}
+use lib.ListN.{length, take, drop, replicate}
+use Rattle.lists.specs.Lists.{pick, either}
+use Rattle.lists.proofs.Facts.{clash}
 use Rattle.runs.specs.Runs.{keptOf}
 use Rattle.runs.proofs.Theorems as runs
 use Rattle.answer.specs.Answer.{accepted, passes}
@@ -18,8 +22,10 @@ use Rattle.state.specs.State.{isHeld}
 use Rattle.empty.specs.Empty.{nothing}
 use Rattle.decoded.proofs.Gives.{Each}
 use Rattle.history.proofs.Steps.{expects}
-use Rattle.layout.specs.Records.{First, firstOf}
-use Rattle.receive.specs.Received.{received}
+use Rattle.ingest.specs.Judgement.{turnedAway}
+use Rattle.layout.specs.Records.{Content, First, firstOf, markOf, bodyLength}
+use Rattle.decoded.proofs.Bound.{first-bytes}
+use Rattle.receive.specs.Received.{taken, unlessBad, bodyTaken, received}
 use Rattle.log.specs.Log.{recordsOf, after, answerAt, takes, held, kept, answers, foldStep, foldAll, RunsOn}
 use Rattle.log.proofs.Laws.{call-given}
 use Rattle.log.proofs.Steps.{stays, fold-same, takes-zero, ShapedFirst, records-shaped, counts-on}
@@ -59,3 +65,29 @@ no-gap h s = numbered h (recordsOf s) (records-shaped (length s) s)
 pub no-gap-from-nothing : (s : List ℕ) → RunsOn 0 (kept nothing (recordsOf s))
 unfolding isHeld
 no-gap-from-nothing s = no-gap nothing s
+
+-- ---- A record in parts, for a reader that holds only a part of it
+-- a whole record gets what its body gets by its mark, and leads to the next by its length
+pub by-parts : (h : Holder) (s : List ℕ) → 4 ≤ length s → 4 + bodyLength s ≤ length s
+    → received h s ≡ record { offered = bodyTaken h (markOf s) (take (bodyLength s) (drop 4 s)); mark = markOf s; next = 4 + bodyLength s }
+unfolding received firstOf bodyTaken
+by-parts h s p q = rw (le-leb 4 (length s) p, le-leb (4 + bodyLength s) (length s) q)
+
+-- of a long body the first 10,086 bytes decide, so the rest may be stepped over
+pub first-bytes-decide : (h : Holder) (mark n : ℕ) (body : List ℕ) → 10086 ≤ n → n ≤ length body → bodyTaken h mark (take n body) ≡ bodyTaken h mark body
+unfolding bodyTaken
+first-bytes-decide h mark n body p q = ap (λ (c : Content). unlessBad h (taken h c)) (first-bytes mark n body p q)
+
+-- 1 where the input ends before the record does
+pub cut-short : (h : Holder) (s : List ℕ) → either (ltb (length s) 4) (ltb (length s) (4 + bodyLength s)) ≡ true
+    → received h s ≡ record { offered = unlessBad h (turnedAway h 1); mark = 0; next = length s }
+unfolding received firstOf
+cut-short h s e = by-test (ltb (length s) 4) refl (ltb (length s) (4 + bodyLength s)) refl e
+  where
+    by-test : (t : Bool) → ltb (length s) 4 ≡ t → (u : Bool) → ltb (length s) (4 + bodyLength s) ≡ u → either t u ≡ true
+        → received h s ≡ record { offered = unlessBad h (turnedAway h 1); mark = 0; next = length s }
+    by-test true p u q r = rw (lt-leb 4 (length s) (ltb-true (length s) 4 p))
+    by-test false p true q r =
+        let four : 4 ≤ length s = ltb-false (length s) 4 p in
+        rw (le-leb 4 (length s) four, lt-leb (4 + bodyLength s) (length s) (ltb-true (length s) (4 + bodyLength s) q))
+    by-test false p false q r = clash (sym r)
