@@ -1,0 +1,197 @@
+// Records: offered to the held state, or folded, with compare's lines for each.
+use crate::calls;
+use crate::text;
+use answer::Answer;
+use ingest::Offered;
+use state::Holder;
+
+pub struct Mode {
+    pub states: bool,
+    pub fold: bool,
+    pub calls: bool,
+    pub mixed: bool,
+}
+
+// What is kept from record to record. `used` of the output buffer is written.
+pub struct Run {
+    pub mode: Mode,
+    pub offered: u64,
+    pub accepted: u64,
+    pub holder: Holder,
+    pub used: usize,
+}
+
+pub fn begin(mode: Mode, used: usize) -> Run {
+    let holder = empty::nothing();
+    Run {
+        mode,
+        offered: 0,
+        accepted: 0,
+        holder,
+        used,
+    }
+}
+
+fn wrote(run: Run, used: usize) -> Run {
+    let mode = run.mode;
+    let holder = run.holder;
+    Run {
+        mode,
+        offered: run.offered,
+        accepted: run.accepted,
+        holder,
+        used,
+    }
+}
+
+pub fn mark_of(s: &[u8]) -> u16 {
+    if s.len() < 2 {
+        return 0;
+    }
+    pair(s[0], s[1])
+}
+
+pub fn pair(x: u8, y: u8) -> u16 {
+    (x as u16) * 256 + (y as u16)
+}
+
+// "a KS in a fold stream starts a new run with the state it brings, whatever was held" (compare/README.md)
+fn start_with(before: Holder, body: &[u8]) -> Offered {
+    let nothing = empty::nothing();
+    let x = receive::of_body(nothing, 0x4B53, body);
+    let answer = x.answer;
+    if answer.number != 0 {
+        return Offered {
+            answer,
+            holder: before,
+        };
+    }
+    x
+}
+
+fn offer(before: Holder, s: &[u8]) -> Offered {
+    let r = receive::receive(before, s);
+    let x = r.offered;
+    x
+}
+
+fn fold(before: Holder, s: &[u8]) -> Offered {
+    if s.len() < 4 {
+        return offer(before, s);
+    }
+    let mark = mark_of(s);
+    if mark == 0x4B53 {
+        return start_with(before, &s[4..]);
+    }
+    fold_record::of_body(before, mark, &s[4..])
+}
+
+// The held state: hex of its KS record, or -.
+fn put_state(out: &mut [u8], at: usize, h: Holder) -> usize {
+    let mut buf = [0u8; 2285];
+    let x = snapshot::save(h, &mut buf);
+    let size = x.a;
+    let n = size.low as usize;
+    if x.number != 0 {
+        return text::put_all(out, at, b"-\n");
+    }
+    if 2285 < n {
+        return at;
+    }
+    let p = text::put_hex(out, at, &buf[0..n]);
+    text::put(out, p, b'\n')
+}
+
+fn next(n: u64) -> u64 {
+    if n < u64::MAX {
+        return n + 1;
+    }
+    n
+}
+
+fn taken(n: u64, x: Answer) -> u64 {
+    if x.number != 0 {
+        return n;
+    }
+    next(n)
+}
+
+// One record, whole, or what is left of one at the end.
+pub fn record(run: Run, s: &[u8], out: &mut [u8]) -> Run {
+    let mode = run.mode;
+    let before = run.holder;
+    let folds = mode.fold;
+    let done = if folds {
+        fold(before, s)
+    } else {
+        offer(before, s)
+    };
+    let answer = done.answer;
+    let holder = done.holder;
+    let offered = next(run.offered);
+    let accepted = taken(run.accepted, answer);
+    let p = lines::put_line(out, run.used, offered, mark_of(s), answer);
+    let states = mode.states;
+    let used = if states { put_state(out, p, holder) } else { p };
+    Run {
+        mode,
+        offered,
+        accepted,
+        holder,
+        used,
+    }
+}
+
+// The last line; a run of calls has none.
+pub fn finish(run: Run, out: &mut [u8]) -> Run {
+    let mode = run.mode;
+    let direct = mode.calls;
+    if direct {
+        return run;
+    }
+    let h = run.holder;
+    let used = lines::put_end(out, run.used, run.accepted, run.offered, h);
+    wrote(run, used)
+}
+
+fn has(s: &[u8], letter: u8) -> bool {
+    let mut i: usize = 0;
+    while i < s.len() {
+        if s[i] == letter {
+            return true;
+        }
+        i += 1;
+    }
+    false
+}
+
+// A record with mark 0 in a mixed input: the letters of its body are the flags for what follows, with an empty holder.
+fn again(run: Run, s: &[u8], out: &mut [u8]) -> Run {
+    let done = finish(run, out);
+    let states = has(s, b's');
+    let fold = has(s, b'f');
+    let calls = has(s, b'c');
+    let mode = Mode {
+        states,
+        fold,
+        calls,
+        mixed: true,
+    };
+    begin(mode, done.used)
+}
+
+pub fn one(run: Run, s: &[u8], out: &mut [u8]) -> Run {
+    let mode = run.mode;
+    let mixed = mode.mixed;
+    if mixed {
+        if mark_of(s) == 0 {
+            return again(run, s, out);
+        }
+    }
+    let direct = mode.calls;
+    if direct {
+        let used = calls::answer(s, out, run.used);
+        return wrote(run, used);
+    }
+    record(run, s, out)
+}
