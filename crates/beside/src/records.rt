@@ -32,7 +32,7 @@ pub fn begin(mode: Mode, used: usize) -> Run {
     }
 }
 
-fn wrote(run: Run, used: usize) -> Run {
+pub fn wrote(run: Run, used: usize) -> Run {
     let mode = run.mode;
     let holder = run.holder;
     Run {
@@ -51,7 +51,7 @@ pub fn mark_of(s: &[u8]) -> u16 {
     pair(s[0], s[1])
 }
 
-pub fn pair(x: u8, y: u8) -> u16 {
+fn pair(x: u8, y: u8) -> u16 {
     (x as u16) * 256 + (y as u16)
 }
 
@@ -69,21 +69,18 @@ fn start_with(before: Holder, body: &[u8]) -> Offered {
     x
 }
 
-fn offer(before: Holder, s: &[u8]) -> Offered {
-    let r = receive::receive(before, s);
-    let x = r.offered;
-    x
+fn fold(before: Holder, mark: u16, body: &[u8]) -> Offered {
+    if mark == 0x4B53 {
+        return start_with(before, body);
+    }
+    fold_record::of_body(before, mark, body)
 }
 
-fn fold(before: Holder, s: &[u8]) -> Offered {
-    if s.len() < 4 {
-        return offer(before, s);
+fn offer(before: Holder, folds: bool, mark: u16, body: &[u8]) -> Offered {
+    if folds {
+        return fold(before, mark, body);
     }
-    let mark = mark_of(s);
-    if mark == 0x4B53 {
-        return start_with(before, &s[4..]);
-    }
-    fold_record::of_body(before, mark, &s[4..])
+    receive::of_body(before, mark, body)
 }
 
 // The held state: hex of its KS record, or -.
@@ -116,23 +113,15 @@ fn taken(n: u64, x: Answer) -> u64 {
     next(n)
 }
 
-// One record, whole, or what is left of one at the end.
-pub fn record(run: Run, s: &[u8], out: &mut [u8]) -> Run {
+// The lines for an answer.
+fn told(run: Run, mark: u16, x: Offered, out: &mut [u8]) -> Run {
     let mode = run.mode;
-    let before = run.holder;
-    let folds = mode.fold;
-    let done = if folds {
-        fold(before, s)
-    } else {
-        offer(before, s)
-    };
-    let answer = done.answer;
-    let holder = done.holder;
+    let answer = x.answer;
+    let holder = x.holder;
     let offered = next(run.offered);
     let accepted = taken(run.accepted, answer);
-    let p = lines::put_line(out, run.used, offered, mark_of(s), answer);
-    let states = mode.states;
-    let used = if states { put_state(out, p, holder) } else { p };
+    let p = lines::put_line(out, run.used, offered, mark, answer);
+    let used = shown(mode.states, holder, out, p);
     Run {
         mode,
         offered,
@@ -140,6 +129,39 @@ pub fn record(run: Run, s: &[u8], out: &mut [u8]) -> Run {
         holder,
         used,
     }
+}
+
+fn shown(states: bool, h: Holder, out: &mut [u8], at: usize) -> usize {
+    if states {
+        return put_state(out, at, h);
+    }
+    at
+}
+
+// s is the record with its mark and length; of a long body the first bytes that decide.
+fn record(run: Run, s: &[u8], out: &mut [u8]) -> Run {
+    if s.len() < 4 {
+        return cut(run, out);
+    }
+    let mode = run.mode;
+    let before = run.holder;
+    let mark = mark_of(s);
+    let x = offer(before, mode.fold, mark, &s[4..]);
+    told(run, mark, x, out)
+}
+
+// "Fewer than 4 bytes left .., or a body past the end, is 1 and ends the input"
+pub fn cut(run: Run, out: &mut [u8]) -> Run {
+    let mode = run.mode;
+    let direct = mode.calls;
+    if direct {
+        let used = text::put_all(out, run.used, b"bad\n");
+        return wrote(run, used);
+    }
+    let answer = answer::refuse(1, 0, 0);
+    let holder = run.holder;
+    let x = Offered { answer, holder };
+    told(run, 0, x, out)
 }
 
 // The last line; a run of calls has none.

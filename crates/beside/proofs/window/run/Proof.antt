@@ -6,7 +6,7 @@ use Rattle.beside.proofs.window.run.Statement.{statement}
 use Rattle.beside.proofs.window.run.Tie as tie
 
 abbrev Inv-loop : tie.InvT-loop
-Inv-loop window₀ out₀ t₀ turns₀ window out t turns = (length window ≡ 131072) × (length out ≡ 32768)
+Inv-loop window₀ out₀ t₀ turns₀ window out t turns = (length window ≡ 16384) × (length out ≡ 32768)
 
 abbrev μ-loop : tie.MeasureT-loop
 μ-loop window₀ out₀ t₀ turns₀ window out t turns = turns
