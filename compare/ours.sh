@@ -38,7 +38,8 @@ all() {
     need
     beside=$(command_of beside)
     side() { check --streams "$streams" --seed "$seed" "${@:2}" >"$work/$1.log" 2>&1 & jobs+=("$1 $!"); }
-    side lines "${keyreport:-$beside}"
+    # beside's own lines stand in its output with states
+    [ -z "$keyreport" ] || side lines "$keyreport"
     side states --states "$beside --states"
     side fold --fold --states "$beside --fold --states"
     check --streams 1 --records "$requests" --seed "$seed" --calls "$beside --calls" >"$work/calls.log" 2>&1 &

@@ -336,7 +336,7 @@ fn of_signers(mark: u16, s: &[u8], out: &mut [u8], at: usize) -> usize {
 }
 
 // s is the whole request, its mark and length included.
-pub fn answer(s: &[u8], out: &mut [u8], at: usize) -> usize {
+pub(crate) fn answer(s: &[u8], out: &mut [u8], at: usize) -> usize {
     let mark = records::mark_of(s);
     match mark {
         // AM, EX, SO, AN, AT, WF, WI, DE, ME

@@ -21,7 +21,7 @@ pub struct Run {
     pub used: usize,
 }
 
-pub fn begin(mode: Mode, used: usize) -> Run {
+pub(crate) fn begin(mode: Mode, used: usize) -> Run {
     let holder = empty::nothing();
     Run {
         mode,
@@ -32,7 +32,7 @@ pub fn begin(mode: Mode, used: usize) -> Run {
     }
 }
 
-pub fn wrote(run: Run, used: usize) -> Run {
+pub(crate) fn wrote(run: Run, used: usize) -> Run {
     let mode = run.mode;
     let holder = run.holder;
     Run {
@@ -44,7 +44,7 @@ pub fn wrote(run: Run, used: usize) -> Run {
     }
 }
 
-pub fn mark_of(s: &[u8]) -> u16 {
+pub(crate) fn mark_of(s: &[u8]) -> u16 {
     if s.len() < 2 {
         return 0;
     }
@@ -151,7 +151,7 @@ fn record(run: Run, s: &[u8], out: &mut [u8]) -> Run {
 }
 
 // "Fewer than 4 bytes left .., or a body past the end, is 1 and ends the input"
-pub fn cut(run: Run, out: &mut [u8]) -> Run {
+pub(crate) fn cut(run: Run, out: &mut [u8]) -> Run {
     let mode = run.mode;
     let direct = mode.calls;
     if direct {
@@ -165,7 +165,7 @@ pub fn cut(run: Run, out: &mut [u8]) -> Run {
 }
 
 // The last line; a run of calls has none.
-pub fn finish(run: Run, out: &mut [u8]) -> Run {
+pub(crate) fn finish(run: Run, out: &mut [u8]) -> Run {
     let mode = run.mode;
     let direct = mode.calls;
     if direct {
@@ -202,7 +202,7 @@ fn again(run: Run, s: &[u8], out: &mut [u8]) -> Run {
     begin(mode, done.used)
 }
 
-pub fn one(run: Run, s: &[u8], out: &mut [u8]) -> Run {
+pub(crate) fn one(run: Run, s: &[u8], out: &mut [u8]) -> Run {
     let mode = run.mode;
     let mixed = mode.mixed;
     if mixed {

@@ -2,7 +2,7 @@
 use cursor::Num32;
 
 // At most 64 places; what cannot be had stays 0.
-pub fn copy(s: &[u8], at: usize, n: usize) -> [u32; 64] {
+pub(crate) fn copy(s: &[u8], at: usize, n: usize) -> [u32; 64] {
     let mut places = [0u32; 64];
     let mut p = at;
     let mut i: usize = 0;

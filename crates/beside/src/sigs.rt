@@ -79,7 +79,7 @@ fn siger(s: &[u8], at: usize) -> Siger {
 }
 
 // n signatures of 76 bytes, from `first` on.
-pub fn copy(s: &[u8], n: usize, first: usize) -> Sigers {
+pub(crate) fn copy(s: &[u8], n: usize, first: usize) -> Sigers {
     let nobody = verification::no_siger();
     let mut at = [nobody; 48];
     let mut p = first;

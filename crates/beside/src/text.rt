@@ -4,7 +4,7 @@ use item::Item;
 use items::Items;
 use number::Number;
 
-pub fn put(out: &mut [u8], at: usize, b: u8) -> usize {
+pub(crate) fn put(out: &mut [u8], at: usize, b: u8) -> usize {
     if at < out.len() {
         out[at] = b;
         return at + 1;
@@ -12,7 +12,7 @@ pub fn put(out: &mut [u8], at: usize, b: u8) -> usize {
     at
 }
 
-pub fn put_all(out: &mut [u8], at: usize, src: &[u8]) -> usize {
+pub(crate) fn put_all(out: &mut [u8], at: usize, src: &[u8]) -> usize {
     let mut p = at;
     let mut i: usize = 0;
     while i < src.len() {
@@ -37,7 +37,7 @@ fn put_byte(out: &mut [u8], at: usize, b: u8) -> usize {
     put(out, p, digit(b % 16))
 }
 
-pub fn put_hex(out: &mut [u8], at: usize, src: &[u8]) -> usize {
+pub(crate) fn put_hex(out: &mut [u8], at: usize, src: &[u8]) -> usize {
     let mut p = at;
     let mut i: usize = 0;
     while i < src.len() {
@@ -47,7 +47,7 @@ pub fn put_hex(out: &mut [u8], at: usize, src: &[u8]) -> usize {
     p
 }
 
-pub fn put_decimal(out: &mut [u8], at: usize, n: u64) -> usize {
+pub(crate) fn put_decimal(out: &mut [u8], at: usize, n: u64) -> usize {
     let mut digits = [0u8; 20];
     let k = io::decimal(n, &mut digits);
     put_all(out, at, &digits[..k])
@@ -59,7 +59,7 @@ fn put_word(out: &mut [u8], at: usize, n: u64, width: usize) -> usize {
     put_all(out, at, &digits[..k])
 }
 
-pub fn put_detail(out: &mut [u8], at: usize, n: Number) -> usize {
+pub(crate) fn put_detail(out: &mut [u8], at: usize, n: Number) -> usize {
     if n.high == 0 {
         return put_word(out, at, n.low, 1);
     }
@@ -68,7 +68,7 @@ pub fn put_detail(out: &mut [u8], at: usize, n: Number) -> usize {
 }
 
 // Number, a and b as keyreport writes them, without a line feed.
-pub fn put_answer(out: &mut [u8], at: usize, x: Answer) -> usize {
+pub(crate) fn put_answer(out: &mut [u8], at: usize, x: Answer) -> usize {
     let a = x.a;
     let b = x.b;
     let p = put_decimal(out, at, wide(x.number));
@@ -78,7 +78,7 @@ pub fn put_answer(out: &mut [u8], at: usize, x: Answer) -> usize {
     put_detail(out, s, b)
 }
 
-pub fn wide(n: u8) -> u64 {
+pub(crate) fn wide(n: u8) -> u64 {
     n as u64
 }
 
@@ -133,7 +133,7 @@ fn put_next(out: &mut [u8], at: usize, i: usize, x: Item) -> usize {
 }
 
 // Items with commas between, or - for none.
-pub fn put_items(out: &mut [u8], at: usize, l: Items) -> usize {
+pub(crate) fn put_items(out: &mut [u8], at: usize, l: Items) -> usize {
     let n = l.count;
     let items = l.at;
     if n == 0 {

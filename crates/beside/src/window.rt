@@ -90,7 +90,7 @@ fn turn(t: Reading, window: &mut [u8], out: &mut [u8]) -> Reading {
 }
 
 // A proved loop has to end: it counts its turns down from a number that no run uses up.
-pub fn run(mode: Mode) {
+pub(crate) fn run(mode: Mode) {
     let mut window = [0u8; 16384];
     let mut out = [0u8; 32768];
     let fresh = records::begin(mode, 0);
