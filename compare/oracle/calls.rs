@@ -168,7 +168,7 @@ fn wide(count: usize) -> u128 {
     u128::try_from(count).expect("a count")
 }
 
-fn parse<T: core::str::FromStr>(word: &str) -> T {
+pub(crate) fn parse<T: core::str::FromStr>(word: &str) -> T {
     word.parse().unwrap_or_else(|_| panic!("not a number: {word}"))
 }
 
@@ -176,14 +176,14 @@ fn parts(list: &str) -> impl Iterator<Item = &str> {
     list.split(',').filter(move |_| list != "-")
 }
 
-fn item(word: &str) -> Item {
+pub(crate) fn item(word: &str) -> Item {
     let mut item = [0; 33];
     item[0] = word.as_bytes()[0];
     fill(&mut item[1..], &word[1..]);
     item
 }
 
-fn items(list: &str) -> Vec<Item> {
+pub(crate) fn items(list: &str) -> Vec<Item> {
     parts(list).map(item).collect()
 }
 
@@ -200,12 +200,12 @@ fn fill(place: &mut [u8], digits: &str) {
     place[start..].copy_from_slice(&bytes);
 }
 
-fn from_hex(digits: &str) -> Vec<u8> {
+pub(crate) fn from_hex(digits: &str) -> Vec<u8> {
     let byte = |at| u8::from_str_radix(&digits[at..at + 2], 16).expect("hex digits");
     (0..digits.len()).step_by(2).map(byte).collect()
 }
 
-fn threshold(word: &str) -> Threshold {
+pub(crate) fn threshold(word: &str) -> Threshold {
     if let Some(required) = word.strip_prefix('s') {
         return Threshold::Simple(parse(required));
     }
@@ -223,7 +223,7 @@ fn threshold(word: &str) -> Threshold {
     Threshold::Weighted(clauses.split(';').map(clause).collect())
 }
 
-fn signatures(list: &str) -> Vec<Signature> {
+pub(crate) fn signatures(list: &str) -> Vec<Signature> {
     parts(list)
         .map(|word| {
             let [code, index, ondex, raw, verified, matches] =

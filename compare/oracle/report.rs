@@ -44,6 +44,15 @@ pub fn report(
     writeln!(out, "end {accepted} {offered} {sn}")
 }
 
+/// The stream without a record that is cut off at its end.
+pub fn whole_records(stream: &[u8]) -> &[u8] {
+    let mut left = stream;
+    while let Head::Whole { rest, .. } = reader::head(left) {
+        left = rest;
+    }
+    &stream[..stream.len() - left.len()]
+}
+
 /// The bytes of one record, counted from 1. What is left over at the end counts as one.
 pub fn record_bytes(mut stream: &[u8], ordinal: usize) -> &[u8] {
     for _ in 1..ordinal {
@@ -56,4 +65,31 @@ pub fn record_bytes(mut stream: &[u8], ordinal: usize) -> &[u8] {
         Head::Whole { rest, .. } => &stream[..stream.len() - rest.len()],
         _ => stream,
     }
+}
+
+/// The shortest life that ends in an answer: of one stream the accepted records up to the first that gets this
+/// number, and that one; of several streams the shortest of these.
+pub fn shortest_life(streams: &[Vec<u8>], number: u32) -> Vec<u8> {
+    let lives = streams.iter().filter_map(|stream| life(stream, number));
+    lives.min_by_key(Vec::len).unwrap_or_default()
+}
+
+fn life(mut stream: &[u8], number: u32) -> Option<Vec<u8>> {
+    let mut holder = Holder::default();
+    let mut life = Vec::new();
+    while let Head::Whole { mark, body, rest } = reader::head(stream) {
+        let answer = match reader::body(mark, body) {
+            Err(number) => Answer::plain(number),
+            Ok(record) => holder.offer(&record),
+        };
+        let record = &stream[..stream.len() - rest.len()];
+        stream = rest;
+        if answer.number == number || answer.number == 0 {
+            life.extend(record);
+        }
+        if answer.number == number {
+            return Some(life);
+        }
+    }
+    None
 }

@@ -57,7 +57,7 @@ impl Writer {
         self.bytes.push(byte);
     }
 
-    fn item(&mut self, spot: Spot, item: &Item) {
+    pub(crate) fn item(&mut self, spot: Spot, item: &Item) {
         self.spot(spot, item[0]);
         self.bytes.extend(&item[1..]);
     }
@@ -66,7 +66,7 @@ impl Writer {
         self.bytes.extend(sn.to_be_bytes());
     }
 
-    fn u32(&mut self, value: u32) {
+    pub(crate) fn u32(&mut self, value: u32) {
         self.bytes.extend(value.to_be_bytes());
     }
 
@@ -75,14 +75,14 @@ impl Writer {
         self.spot(Spot::Count(limit), u8::try_from(count).expect("counts are small"));
     }
 
-    fn items(&mut self, spot: Spot, items: &[Item]) {
+    pub(crate) fn items(&mut self, spot: Spot, items: &[Item]) {
         self.count(MAX_ITEMS, items.len());
         for item in items {
             self.item(spot, item);
         }
     }
 
-    fn threshold(&mut self, threshold: &Threshold) {
+    pub(crate) fn threshold(&mut self, threshold: &Threshold) {
         match threshold {
             Threshold::Simple(required) => {
                 self.spot(Spot::Tag, 0);
@@ -110,7 +110,7 @@ impl Writer {
         }
     }
 
-    fn signatures(&mut self, signatures: &[Signature]) {
+    pub(crate) fn signatures(&mut self, signatures: &[Signature]) {
         self.count(MAX_SIGNATURES, signatures.len());
         for signature in signatures {
             self.bytes.push(signature.code);
