@@ -1,0 +1,118 @@
+use Rattle.keyreport.proofs.Laws.{told-in, fits-from, found}
+use mathlib.Core.Path.{_≡_}
+use Prim.Native.Nat.{_+_, _≤_, _-_}
+use native.Mathlib.Omega.{arith}
+use borrow.Author.Needs.{needs}
+use lib.ListN.{length}
+use Rattle.keyreport.proofs.run.Statement.{statement}
+use Rattle.keyreport.proofs.run.Tie as tie
+
+abbrev Inv-loop : tie.InvT-loop
+Inv-loop window₀ out₀ t₀ span₀ at₀ turns₀ window out t span at turns = (at + 111 ≤ length out) × (length out ≡ length out₀) × (length window ≡ length window₀)
+
+abbrev μ-loop : tie.MeasureT-loop
+μ-loop window₀ out₀ t₀ span₀ at₀ turns₀ window out t span at turns = turns
+
+begin-requires : tie.Need-begin-requires Inv-loop μ-loop
+begin-requires c κs = search needs
+
+loop-holds : tie.Need-loop-holds Inv-loop μ-loop
+loop-holds c = search needs
+
+sub-turns : tie.Need-sub-turns Inv-loop μ-loop
+sub-turns c = search needs
+
+read-next-requires : tie.Need-read-next-requires Inv-loop μ-loop
+read-next-requires c κs = search needs
+
+enum-known-next : tie.Need-enum-known-next Inv-loop μ-loop
+enum-known-next c = search needs
+
+finish-requires : tie.Need-finish-requires Inv-loop μ-loop
+finish-requires c κs = search needs
+
+same-length : tie.Need-same-length Inv-loop μ-loop
+same-length c = search needs
+
+same-length-2 : tie.Need-same-length-2 Inv-loop μ-loop
+same-length-2 c = search needs
+
+returns : tie.Need-returns Inv-loop μ-loop
+returns c = search needs
+
+step-requires : tie.Need-step-requires Inv-loop μ-loop
+step-requires c κs =
+    let l = c .before .before .before .before .before .before .before .before .before .before .loop in
+    let s = found (l .window) (c .before .before .before .before .before .before .before .read-next .last .0) (l .span) (c .before .before .before .next .given .0 .0) (c .before .before .before .before .before .before .before .read-next .result) (c .before .before .before .next .given .1) (c .before .before .before .before .before .before .before .read-next .ensures) in
+    let o = s .ordered in
+    let i = s .within in
+    (s .begins, omega arith)
+
+make-room-requires : tie.Need-make-room-requires Inv-loop μ-loop
+make-room-requires c κs =
+    let l = c .before .before .before .before .before .before .before .before .before .before .before .before .before .before .loop in
+    let h = told-in (l .t) _ _ (l .at) (l .out) (c .before .before .before .step .result) (c .before .before .before .step .ensures .0) (l .inv .0) in
+    let e = c .before .before .out2 .given in
+    (omega arith, omega arith)
+
+enum-known-room : tie.Need-enum-known-room Inv-loop μ-loop
+enum-known-room c = search needs
+
+enum-told : tie.Need-enum-told Inv-loop μ-loop
+enum-told c = search needs
+
+same-length-3 : tie.Need-same-length-3 Inv-loop μ-loop
+same-length-3 c = search needs
+
+same-length-4 : tie.Need-same-length-4 Inv-loop μ-loop
+same-length-4 c = search needs
+
+returns-2 : tie.Need-returns-2 Inv-loop μ-loop
+returns-2 c = search needs
+
+loop-less : tie.Need-loop-less Inv-loop μ-loop
+loop-less c = search needs
+
+loop-again : tie.Need-loop-again Inv-loop μ-loop
+loop-again c =
+    let l = c .before .before .before .before .before .before .before .before .before .before .before .before .before .before .before .before .before .before .before .loop in
+    let e = c .before .before .before .before .before .before .before .out2 .given in
+    let w = c .before .before .before .before .before .before .before .before .before .before .before .before .before .before .before .window .given in
+    (fits-from _ (c .before .before .room .given .0 .0) (c .before .before .before .before .make-room .result) (c .before .before .room .given .1) (c .before .before .before .before .make-room .ensures), omega arith, omega arith)
+
+same-length-5 : tie.Need-same-length-5 Inv-loop μ-loop
+same-length-5 c = search needs
+
+same-length-6 : tie.Need-same-length-6 Inv-loop μ-loop
+same-length-6 c = search needs
+
+returns-3 : tie.Need-returns-3 Inv-loop μ-loop
+returns-3 c = search needs
+
+pub run-spec : {M : Type 1} → statement M
+run-spec =
+    tie.close
+    (tie.spec
+    Inv-loop
+    μ-loop
+    begin-requires
+    loop-holds
+    sub-turns
+    read-next-requires
+    enum-known-next
+    finish-requires
+    same-length
+    same-length-2
+    returns
+    step-requires
+    make-room-requires
+    enum-known-room
+    enum-told
+    same-length-3
+    same-length-4
+    returns-2
+    loop-less
+    loop-again
+    same-length-5
+    same-length-6
+    returns-3)
