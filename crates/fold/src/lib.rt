@@ -17,16 +17,6 @@ use ingest::Offered;
 use state::Holder;
 use state::KeyState;
 
-fn refuse(h: Holder, which: u8) -> Offered
-    ensures { λ r. ⌜ r ≡ record { answer = refused which 0 0; holder = h } ⌝ }
-{
-    let x = answer::refuse(which, 0, 0);
-    Offered {
-        answer: x,
-        holder: h,
-    }
-}
-
 fn take(s: KeyState) -> Offered
     ensures { λ r. ⌜ r ≡ record { answer = accepted; holder = holding s } ⌝ }
 {
@@ -53,7 +43,7 @@ pub fn roll(before: Holder, h: Head, b: Body) -> Offered
 {
     let held = before.held;
     if !held {
-        return refuse(before, 8);
+        return ingest::refuse(before, 8);
     }
     let old = before.state;
     let witnessing = old.witnessing;
@@ -78,7 +68,7 @@ pub fn step(before: Holder, h: Head) -> Offered
 {
     let held = before.held;
     if !held {
-        return refuse(before, 8);
+        return ingest::refuse(before, 8);
     }
     let old = before.state;
     let s = state::step(old, h);
@@ -95,8 +85,8 @@ fn fold_as(before: Holder, e: Event) -> Offered
         Ilk::Inception => start(h, b),
         Ilk::Rotation => roll(before, h, b),
         Ilk::Interaction => step(before, h),
-        Ilk::DelegatedInception => refuse(before, 6),
-        Ilk::DelegatedRotation => refuse(before, 6),
+        Ilk::DelegatedInception => ingest::refuse(before, 6),
+        Ilk::DelegatedRotation => ingest::refuse(before, 6),
     }
 }
 
@@ -105,11 +95,11 @@ pub fn fold(before: Holder, e: Event) -> Offered
 {
     let n = shape::of_holder(before);
     if n != 0 {
-        return refuse(before, n);
+        return ingest::refuse(before, n);
     }
     let m = shape::of_event(e);
     if m != 0 {
-        return refuse(before, m);
+        return ingest::refuse(before, m);
     }
     fold_as(before, e)
 }

@@ -30,8 +30,9 @@ use Rattle.decoded.proofs.Shapes.{decoded-shape}
 use Rattle.record.specs.declared.EventMarks.{EventMarks}
 use Rattle.record.specs.declared.EventScan as E
 use Rattle.record.specs.Marks.{eventIs}
-use Rattle.receive.specs.Received.{turnedAway, unlessBad}
-use Rattle.receive.specs.Gate.{refusalOfEvent}
+use Rattle.ingest.specs.Judgement.{turnedAway}
+use Rattle.receive.specs.Received.{unlessBad}
+use Rattle.record.specs.Marks.{refusalOfEvent}
 use Rattle.receive.proofs.Laws.{bad-holder, good-holder}
 use Rattle.fold.specs.Fold.{foldable, foldAnswer, foldState, folded}
 use Rattle.fold.proofs.Laws.{clean-fold}

@@ -6,7 +6,8 @@ use Rattle.lists.specs.Lists.{pick}
 use Rattle.state.specs.declared.Holder.{Holder}
 use Rattle.ingest.specs.declared.Offered.{Offered}
 use Rattle.layout.specs.Records.{Content, event, snapshot, refusal, contentOf}
-use Rattle.receive.specs.Received.{turnedAway, unlessBad}
+use Rattle.ingest.specs.Judgement.{turnedAway}
+use Rattle.receive.specs.Received.{unlessBad}
 use Rattle.fold.specs.Fold.{folded}
 
 -- an event is folded; a body that cannot be read gets 2, 3 or 4

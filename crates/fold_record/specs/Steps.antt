@@ -10,7 +10,7 @@ use Rattle.state.specs.State.{holding}
 use Rattle.ingest.specs.declared.Offered.{Offered}
 use Rattle.ingest.specs.Judgement.{settled}
 use Rattle.layout.specs.Records.{Content, event, snapshot, refusal, contentOf}
-use Rattle.receive.specs.Received.{turnedAway}
+use Rattle.ingest.specs.Judgement.{turnedAway}
 use Rattle.fold.specs.Fold.{foldable, foldedAs}
 
 -- an event's fold by its ilk, with no shape looked at

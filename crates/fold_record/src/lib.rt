@@ -3,33 +3,14 @@ ghost use mathlib.Core.Path.{_≡_};
 ghost use Rattle.event.specs.declared.Ilk.the-variants.{Inception, Rotation, Interaction};
 ghost use Rattle.record.specs.Marks.{eventOf};
 ghost use Rattle.layout.specs.Records.{inceptionAt, rotationAt, interactionAt, asEvent};
-ghost use Rattle.receive.specs.Received.{turnedAway};
-ghost use Rattle.receive.specs.Gate.{refusalOfEvent};
+ghost use Rattle.ingest.specs.Judgement.{turnedAway};
+ghost use Rattle.record.specs.Marks.{refusalOfEvent};
 ghost use Rattle.fold_record.specs.Folded.{bodyFolded};
 ghost use Rattle.fold_record.specs.Steps.{foldOf, contentFolded, foldedBy};
 use ingest::Offered;
 use record::EventMarks;
 use record::EventScan;
 use state::Holder;
-
-fn refuse(h: Holder, which: u8) -> Offered
-    ensures { λ r. ⌜ r ≡ turnedAway h which ⌝ }
-{
-    let x = answer::refuse(which, 0, 0);
-    Offered {
-        answer: x,
-        holder: h,
-    }
-}
-
-fn refusal_of(x: EventScan) -> u8
-    ensures { λ r. ⌜ r ≡ refusalOfEvent x ⌝ }
-{
-    match x {
-        EventScan::Of(_, _) => 3,
-        EventScan::No(k) => k,
-    }
-}
 
 // `before` stands only in the statement: an inception starts afresh.
 fn start(before: Holder, s: &[u8], m: EventMarks) -> Offered
@@ -65,7 +46,7 @@ fn of_inception(before: Holder, s: &[u8]) -> Offered
 {
     let scan = record::scan_inception(s, 0);
     let EventScan::Of(m, _) = scan else {
-        return refuse(before, refusal_of(scan));
+        return ingest::refuse(before, record::refusal_of_event(scan));
     };
     start(before, s, m)
 }
@@ -75,7 +56,7 @@ fn of_rotation(before: Holder, s: &[u8]) -> Offered
 {
     let scan = record::scan_rotation(s, 0);
     let EventScan::Of(m, _) = scan else {
-        return refuse(before, refusal_of(scan));
+        return ingest::refuse(before, record::refusal_of_event(scan));
     };
     roll(before, s, m)
 }
@@ -85,7 +66,7 @@ fn of_interaction(before: Holder, s: &[u8]) -> Offered
 {
     let scan = record::scan_interaction(s, 0);
     let EventScan::Of(m, _) = scan else {
-        return refuse(before, refusal_of(scan));
+        return ingest::refuse(before, record::refusal_of_event(scan));
     };
     step(before, s, m)
 }
@@ -103,13 +84,13 @@ fn by_mark(before: Holder, mark: u16, body: &[u8]) -> Offered
         return of_interaction(before, body);
     }
     if mark == 0x4449 {
-        return refuse(before, 6);
+        return ingest::refuse(before, 6);
     }
     if mark == 0x4452 {
-        return refuse(before, 6);
+        return ingest::refuse(before, 6);
     }
     // "a KS is none", like a mark that nobody knows
-    refuse(before, 2)
+    ingest::refuse(before, 2)
 }
 
 // One record's body, by its mark.
@@ -118,7 +99,7 @@ pub fn of_body(before: Holder, mark: u16, body: &[u8]) -> Offered
 {
     let n = shape::of_holder(before);
     if n != 0 {
-        return refuse(before, n);
+        return ingest::refuse(before, n);
     }
     by_mark(before, mark, body)
 }

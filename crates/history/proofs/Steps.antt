@@ -29,7 +29,7 @@ use Rattle.fold.specs.Fold.{folded, foldAnswer, foldState, foldedAs, foldable}
 use Rattle.history.specs.History.{after, takes}
 
 -- ---- the checks in order: where the whole passes, each check passed
-first-passes : (x : Answer) (xs : List Answer) → passes (firstRefusal (x ∷ xs)) ≡ true → (passes x ≡ true) × (passes (firstRefusal xs) ≡ true)
+pub first-passes : (x : Answer) (xs : List Answer) → passes (firstRefusal (x ∷ xs)) ≡ true → (passes x ≡ true) × (passes (firstRefusal xs) ≡ true)
 unfolding firstRefusal
 first-passes x xs e = by-test (passes x) refl e
   where
@@ -51,7 +51,7 @@ unfolding inception
 seed-is-genesis e p = ap (λ (n : Number). begun n (e .head) (e .body)) (sym (at-zero (e .head) (first-passes _ _ p .0)))
 
 -- of a rotation: its new list fits
-list-fits : (s : KeyState) (e : Event) → passes (rotates s e) ≡ true → passes (changeOf (newWitnesses s (e .body)) .answer) ≡ true
+pub list-fits : (s : KeyState) (e : Event) → passes (rotates s e) ≡ true → passes (changeOf (newWitnesses s (e .body)) .answer) ≡ true
 unfolding rotation rewitness
 list-fits s e p =
     let q = first-passes _ _ (first-passes _ _ (first-passes _ _ (first-passes _ _ (first-passes _ _ p .1) .1) .1) .1) .1 in
@@ -59,7 +59,7 @@ list-fits s e p =
     first-passes _ _ (first-passes _ _ r .1) .0
 
 -- what a held state's answer rests on
-live : (s : KeyState) (x : Answer) → passes (pick (mayMove s) x (refused 10 0 0)) ≡ true → passes x ≡ true
+pub live : (s : KeyState) (x : Answer) → passes (pick (mayMove s) x (refused 10 0 0)) ≡ true → passes x ≡ true
 live s x p = by-test (mayMove s) p
   where
     by-test : (t : Bool) → passes (pick t x (refused 10 0 0)) ≡ true → passes x ≡ true

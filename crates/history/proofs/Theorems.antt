@@ -9,27 +9,21 @@ use mathlib.Core.Bool.{Bool, true, false}
 use Prim.Native.Nat.{ℕ}
 use lib.ListN.{length, replicate}
 use Rattle.lists.specs.Lists.{pick}
-use Rattle.answer.specs.declared.Answer.{Answer}
 use Rattle.answer.specs.Answer.{accepted}
 use Rattle.event.specs.declared.Event.{Event}
 use Rattle.state.specs.declared.Holder.{Holder}
 use Rattle.state.specs.State.{isHeld}
 use Rattle.empty.specs.Empty.{nothing}
-use Rattle.history.specs.History.{after, takes, held, kept, answers, foldAll, numbers, countFrom}
+use Rattle.runs.specs.Runs.{keptOf}
+use Rattle.runs.proofs.Theorems as runs
+use Rattle.history.specs.History.{after, takes, held, kept, answerAt, answers, foldStep, foldAll, numbers, countFrom}
 use Rattle.history.proofs.Steps.{stays, fold-same, expects, takes-next, waits-next, takes-zero}
 
 pub held-is-fold : (h : Holder) (es : List Event) → held h es ≡ foldAll h (kept h es)
-unfolding held kept foldAll
-held-is-fold h [] = refl
-held-is-fold h (e ∷ es) = by-test (takes h e) refl (held-is-fold (after h e) es)
-  where
-    by-test : (t : Bool) → takes h e ≡ t → held (after h e) es ≡ foldAll (after h e) (kept (after h e) es)
-        → held (after h e) es ≡ foldAll h (pick t (e ∷ kept (after h e) es) (kept (after h e) es))
-    by-test true p ih = ih ∙ ap (λ (x : Holder). foldAll x (kept (after h e) es)) (fold-same h e p)
-    by-test false p ih = ih ∙ ap (λ (x : Holder). foldAll x (kept (after h e) es)) (stays h e p)
+held-is-fold h es = runs.held-is-fold after takes stays foldStep fold-same h es
 
 numbered : (h : Holder) (es : List Event) → numbers (kept h es) ≡ countFrom (expects h) (kept h es)
-unfolding kept numbers countFrom
+unfolding keptOf numbers countFrom
 numbered h [] = refl
 numbered h (e ∷ es) = by-test (takes h e) refl (numbered (after h e) es)
   where
@@ -43,24 +37,10 @@ unfolding isHeld
 no-gap es = numbered nothing es
 
 pub struck-out : (h : Holder) (es : List Event) → held h (kept h es) ≡ held h es
-unfolding held kept
-struck-out h [] = refl
-struck-out h (e ∷ es) = by-test (takes h e) refl (struck-out (after h e) es)
-  where
-    by-test : (t : Bool) → takes h e ≡ t → held (after h e) (kept (after h e) es) ≡ held (after h e) es
-        → held h (pick t (e ∷ kept (after h e) es) (kept (after h e) es)) ≡ held (after h e) es
-    by-test true p ih = ih
-    by-test false p ih = ap (λ (x : Holder). held x (kept (after h e) es)) (sym (stays h e p)) ∙ ih
+struck-out h es = runs.struck-out after takes stays h es
 
 pub later-answers : (h : Holder) (es later : List Event) → answers (held h (kept h es)) later ≡ answers (held h es) later
-later-answers h es later = ap (λ (x : Holder). answers x later) (struck-out h es)
+later-answers h es later = runs.later-answers after takes stays answerAt h es later
 
 pub all-accepted : (h : Holder) (es : List Event) → answers h (kept h es) ≡ replicate (length (kept h es)) accepted
-unfolding kept answers
-all-accepted h [] = refl
-all-accepted h (e ∷ es) = by-test (takes h e) refl (all-accepted (after h e) es)
-  where
-    by-test : (t : Bool) → takes h e ≡ t → answers (after h e) (kept (after h e) es) ≡ replicate (length (kept (after h e) es)) accepted
-        → answers h (pick t (e ∷ kept (after h e) es) (kept (after h e) es)) ≡ replicate (length (pick t (e ∷ kept (after h e) es) (kept (after h e) es))) accepted
-    by-test true p ih = rw (takes-zero h e p) (ap (λ (xs : List Answer). accepted ∷ xs) ih)
-    by-test false p ih = ap (λ (x : Holder). answers x (kept (after h e) es)) (sym (stays h e p)) ∙ ih
+all-accepted h es = runs.all-taken after takes stays answerAt accepted takes-zero h es

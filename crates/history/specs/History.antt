@@ -3,7 +3,7 @@
 use Prim.Native.Nat.{ℕ, _+_}
 use mathlib.Core.List.{List, [], _∷_}
 use mathlib.Core.Bool.{Bool}
-use Rattle.lists.specs.Lists.{pick}
+use Rattle.runs.specs.Runs.{endOf, keptOf, answersOf}
 use Rattle.number.specs.Number.{value}
 use Rattle.answer.specs.declared.Answer.{Answer}
 use Rattle.answer.specs.Answer.{passes}
@@ -18,25 +18,25 @@ after h e = offered h e .holder
 abbrev pub takes : Holder → Event → Bool
 takes h e = passes (offered h e .answer)
 
--- what is held after all of them
-unfoldable pub held : Holder → List Event → Holder
-held h [] = h
-held h (e ∷ es) = held (after h e) es
+-- what is held after all of them; those that were accepted, in order; the answers, in order
+abbrev pub held : Holder → List Event → Holder
+held h es = endOf after h es
 
--- those that were accepted, in order
-unfoldable pub kept : Holder → List Event → List Event
-kept h [] = []
-kept h (e ∷ es) = pick (takes h e) (e ∷ kept (after h e) es) (kept (after h e) es)
+abbrev pub kept : Holder → List Event → List Event
+kept h es = keptOf after takes h es
 
--- the answers, in order
-unfoldable pub answers : Holder → List Event → List Answer
-answers h [] = []
-answers h (e ∷ es) = offered h e .answer ∷ answers (after h e) es
+abbrev pub answerAt : Holder → Event → Answer
+answerAt h e = offered h e .answer
+
+abbrev pub answers : Holder → List Event → List Answer
+answers h es = answersOf after answerAt h es
 
 -- the unchecked fold of all of them
-unfoldable pub foldAll : Holder → List Event → Holder
-foldAll h [] = h
-foldAll h (e ∷ es) = foldAll (folded h e .holder) es
+abbrev pub foldStep : Holder → Event → Holder
+foldStep h e = folded h e .holder
+
+abbrev pub foldAll : Holder → List Event → Holder
+foldAll h es = endOf foldStep h es
 
 -- the events' numbers
 unfoldable pub numbers : List Event → List ℕ

@@ -1,5 +1,6 @@
 -- Demand 2's definition: what an event gets, for every holder and every event. The lists of checks are in rules/specs/Rules,
 -- the sets of places in verification/specs/Verification, the next states in state/specs/State.
+use Prim.Native.Nat.{ℕ}
 use mathlib.Core.List.{[], _∷_}
 use Rattle.lists.specs.Lists.{pick}
 use Rattle.answer.specs.declared.Answer.{Answer}
@@ -84,6 +85,10 @@ nextState s e = nextAs (e .ilk) s e
 -- "Every refusal leaves state and buffers untouched."
 abbrev pub settled : Holder → Answer → Holder → Offered
 settled before x after = record { answer = x; holder = pick (passes x) after before }
+
+-- a refusal with no details
+abbrev pub turnedAway : Holder → ℕ → Offered
+turnedAway h n = record { answer = refused n 0 0; holder = h }
 
 unfoldable pub offered : Holder → Event → Offered
 offered h e = settled h (answerTo h e) (holding (nextState (h .state) e))

@@ -33,7 +33,8 @@ fn keep(h: Holder, x: Answer) -> Offered
     }
 }
 
-fn refuse(h: Holder, which: u8) -> Offered
+// A refusal with no details. "Every refusal leaves state and buffers untouched."
+pub fn refuse(h: Holder, which: u8) -> Offered
     ensures { λ r. ⌜ r ≡ record { answer = refused which 0 0; holder = h } ⌝ }
 {
     let x = answer::refuse(which, 0, 0);

@@ -41,8 +41,10 @@ use Rattle.record.specs.declared.StateMarks.{StateMarks}
 use Rattle.record.specs.declared.EventScan as E
 use Rattle.record.specs.declared.StateScan as S
 use Rattle.record.specs.Marks.{eventIs, stateIs, eventOf}
-use Rattle.receive.specs.Received.{turnedAway, taken, unlessBad, bodyTaken, firstTaken, received}
-use Rattle.receive.specs.Gate.{gateOf, judged, contentJudged, refusalOfEvent, refusalOfState}
+use Rattle.ingest.specs.Judgement.{turnedAway}
+use Rattle.receive.specs.Received.{taken, unlessBad, bodyTaken, firstTaken, received}
+use Rattle.record.specs.Marks.{refusalOfEvent, refusalOfState}
+use Rattle.receive.specs.Gate.{gateOf, judged, contentJudged}
 
 -- ---- the gate
 abbrev goesOn : ℕ → Answer → Answer

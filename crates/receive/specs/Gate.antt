@@ -7,11 +7,8 @@ use Rattle.event.specs.declared.Event.{Event}
 use Rattle.state.specs.declared.Holder.{Holder}
 use Rattle.state.specs.State.{isHeld, mayMove, holding}
 use Rattle.ingest.specs.declared.Offered.{Offered}
-use Rattle.ingest.specs.Judgement.{settled, judgement, nextState}
+use Rattle.ingest.specs.Judgement.{settled, turnedAway, judgement, nextState}
 use Rattle.layout.specs.Records.{Content, event, snapshot, refusal}
-use Rattle.record.specs.declared.EventScan as E
-use Rattle.record.specs.declared.StateScan as S
-use Rattle.receive.specs.Received.{turnedAway}
 
 -- by where the holder stands: nothing held, held and closed (10), held and live; 0 where the event's own checks follow
 unfoldable pub gateOf : Holder → ℕ → ℕ → ℕ
@@ -25,12 +22,3 @@ abbrev pub contentJudged : Holder → Content → Offered
 contentJudged h (event e) = judged h e
 contentJudged h (snapshot s) = settled h (pick (isHeld h) (refused 5 0 0) accepted) (holding s)
 contentJudged h (refusal n) = turnedAway h n
-
--- the refusal that a scan stopped with; 3 for one that did not stop, which is never asked
-abbrev pub refusalOfEvent : E.EventScan → ℕ
-refusalOfEvent (E.the-variants.Of m n) = 3
-refusalOfEvent (E.the-variants.No k) = k
-
-abbrev pub refusalOfState : S.StateScan → ℕ
-refusalOfState (S.the-variants.Of m n) = 3
-refusalOfState (S.the-variants.No k) = k

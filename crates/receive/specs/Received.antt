@@ -9,13 +9,9 @@ use Rattle.state.specs.declared.Holder.{Holder}
 use Rattle.state.specs.State.{isHeld, holding}
 use Rattle.shape.specs.State.{holderShape}
 use Rattle.ingest.specs.declared.Offered.{Offered}
-use Rattle.ingest.specs.Judgement.{settled, offered}
+use Rattle.ingest.specs.Judgement.{settled, turnedAway, offered}
 use Rattle.layout.specs.Records.{Content, event, snapshot, refusal, contentOf, First, record-of, truncated, firstOf}
 use Rattle.receive.specs.declared.Received.{Received}
-
--- "Every refusal leaves state and buffers untouched."
-abbrev pub turnedAway : Holder → ℕ → Offered
-turnedAway h n = record { answer = refused n 0 0; holder = h }
 
 -- an event gets demand 2's answer; "Empty holder: KS is taken", "Held state: KS 5"; a body that cannot be read gets 2, 3 or 4
 abbrev pub taken : Holder → Content → Offered

@@ -8,8 +8,10 @@ ghost use Rattle.evidence.specs.Evidence.{evidenceOf};
 ghost use Rattle.wire.specs.Wire.{sigersOf};
 ghost use Rattle.record.specs.Marks.{eventOf};
 ghost use Rattle.layout.specs.Records.{inceptionAt, rotationAt, interactionAt, snapshotAt, asEvent, asSnapshot, contentOf, delegated, truncated};
-ghost use Rattle.receive.specs.Received.{turnedAway, bodyTaken, firstTaken, received};
-ghost use Rattle.receive.specs.Gate.{gateOf, judged, contentJudged, refusalOfEvent, refusalOfState};
+ghost use Rattle.ingest.specs.Judgement.{turnedAway};
+ghost use Rattle.receive.specs.Received.{bodyTaken, firstTaken, received};
+ghost use Rattle.record.specs.Marks.{refusalOfEvent, refusalOfState};
+ghost use Rattle.receive.specs.Gate.{gateOf, judged, contentJudged};
 use answer::Answer;
 use evidence::Evidence;
 use ingest::Offered;
@@ -24,16 +26,6 @@ pub struct Received {
     pub offered: Offered,
     pub mark: u16,
     pub next: usize,
-}
-
-fn refuse(h: Holder, which: u8) -> Offered
-    ensures { λ r. ⌜ r ≡ turnedAway h which ⌝ }
-{
-    let x = answer::refuse(which, 0, 0);
-    Offered {
-        answer: x,
-        holder: h,
-    }
 }
 
 // Of up to 48 signatures and 48 receipts, counted where they stand.
@@ -111,34 +103,16 @@ fn interact(before: Holder, s: &[u8], m: EventMarks) -> Offered
     ingest::interact(before, h, v)
 }
 
-fn refusal_of_event(x: EventScan) -> u8
-    ensures { λ r. ⌜ r ≡ refusalOfEvent x ⌝ }
-{
-    match x {
-        EventScan::Of(_, _) => 3,
-        EventScan::No(k) => k,
-    }
-}
-
-fn refusal_of_state(x: StateScan) -> u8
-    ensures { λ r. ⌜ r ≡ refusalOfState x ⌝ }
-{
-    match x {
-        StateScan::Of(_, _) => 3,
-        StateScan::No(k) => k,
-    }
-}
-
 fn of_inception(before: Holder, s: &[u8]) -> Offered
     ensures { λ r. ⌜ r ≡ contentJudged before (asEvent (inceptionAt (now (s .entry)) 0)) ⌝ }
 {
     let scan = record::scan_inception(s, 0);
     let EventScan::Of(m, _) = scan else {
-        return refuse(before, refusal_of_event(scan));
+        return ingest::refuse(before, record::refusal_of_event(scan));
     };
     let n = gate(before, 0, 9);
     if n != 0 {
-        return refuse(before, n);
+        return ingest::refuse(before, n);
     }
     incept(before, s, m)
 }
@@ -148,11 +122,11 @@ fn of_rotation(before: Holder, s: &[u8]) -> Offered
 {
     let scan = record::scan_rotation(s, 0);
     let EventScan::Of(m, _) = scan else {
-        return refuse(before, refusal_of_event(scan));
+        return ingest::refuse(before, record::refusal_of_event(scan));
     };
     let n = gate(before, 8, 0);
     if n != 0 {
-        return refuse(before, n);
+        return ingest::refuse(before, n);
     }
     rotate(before, s, m)
 }
@@ -162,11 +136,11 @@ fn of_interaction(before: Holder, s: &[u8]) -> Offered
 {
     let scan = record::scan_interaction(s, 0);
     let EventScan::Of(m, _) = scan else {
-        return refuse(before, refusal_of_event(scan));
+        return ingest::refuse(before, record::refusal_of_event(scan));
     };
     let n = gate(before, 8, 0);
     if n != 0 {
-        return refuse(before, n);
+        return ingest::refuse(before, n);
     }
     interact(before, s, m)
 }
@@ -176,14 +150,14 @@ fn of_delegated_inception(before: Holder) -> Offered
     ensures { λ r. ⌜ r ≡ judged before (delegated DelegatedInception) ⌝ }
 {
     let n = gate(before, 6, 6);
-    refuse(before, n)
+    ingest::refuse(before, n)
 }
 
 fn of_delegated_rotation(before: Holder) -> Offered
     ensures { λ r. ⌜ r ≡ judged before (delegated DelegatedRotation) ⌝ }
 {
     let n = gate(before, 8, 7);
-    refuse(before, n)
+    ingest::refuse(before, n)
 }
 
 // "Numbers 1 to 4 come before all others, for a KS too."
@@ -192,11 +166,11 @@ fn of_snapshot(before: Holder, s: &[u8]) -> Offered
 {
     let scan = record::scan_snapshot(s, 0);
     let StateScan::Of(m, _) = scan else {
-        return refuse(before, refusal_of_state(scan));
+        return ingest::refuse(before, record::refusal_of_state(scan));
     };
     let held = before.held;
     if held {
-        return refuse(before, 5);
+        return ingest::refuse(before, 5);
     }
     let copied = record::copy_state(s, m);
     let holder = state::hold(copied);
@@ -225,7 +199,7 @@ fn by_mark(before: Holder, mark: u16, body: &[u8]) -> Offered
     if mark == 0x4B53 {
         return of_snapshot(before, body);
     }
-    refuse(before, 2)
+    ingest::refuse(before, 2)
 }
 
 // One record's body, by its mark.
@@ -234,7 +208,7 @@ pub fn of_body(before: Holder, mark: u16, body: &[u8]) -> Offered
 {
     let n = shape::of_holder(before);
     if n != 0 {
-        return refuse(before, n);
+        return ingest::refuse(before, n);
     }
     by_mark(before, mark, body)
 }
@@ -248,7 +222,7 @@ fn pair(x: u8, y: u8) -> u16
 fn unread(before: Holder, which: u8, end: usize) -> Received
     ensures { λ r. ⌜ r ≡ record { offered = turnedAway before which; mark = 0; next = end } ⌝ }
 {
-    let offered = refuse(before, which);
+    let offered = ingest::refuse(before, which);
     Received {
         offered,
         mark: 0,

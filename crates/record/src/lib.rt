@@ -3,7 +3,7 @@ ghost use mathlib.Core.Path.{_≡_};
 ghost use Rattle.event.specs.declared.Ilk.the-variants.{Inception, Rotation, Interaction};
 ghost use Rattle.layout.specs.Records.{inceptionAt, rotationAt, interactionAt, snapshotAt};
 ghost use Rattle.cursor.specs.Spans.{mapped};
-ghost use Rattle.record.specs.Marks.{tailIs, eventIs, lastIs, stateIs, refusalOfSigers, refusalOfBody, refusalOfTail};
+ghost use Rattle.record.specs.Marks.{tailIs, eventIs, lastIs, stateIs, refusalOfSigers, refusalOfBody, refusalOfTail, refusalOfEvent, refusalOfState};
 ghost use Rattle.record.specs.Marks.{tailPlaces, inceptionPlaces, rotationPlaces, interactionPlaces, lastPlaces, snapshotPlaces, stateOf, eventOf};
 use authority::Witnessing;
 use cursor::Num8;
@@ -91,6 +91,24 @@ fn refusal_of_tail(x: TailScan) -> u8
     match x {
         TailScan::Of(_, _) => 3,
         TailScan::No(k) => k,
+    }
+}
+
+pub fn refusal_of_event(x: EventScan) -> u8
+    ensures { λ r. ⌜ r ≡ refusalOfEvent x ⌝ }
+{
+    match x {
+        EventScan::Of(_, _) => 3,
+        EventScan::No(k) => k,
+    }
+}
+
+pub fn refusal_of_state(x: StateScan) -> u8
+    ensures { λ r. ⌜ r ≡ refusalOfState x ⌝ }
+{
+    match x {
+        StateScan::Of(_, _) => 3,
+        StateScan::No(k) => k,
     }
 }
 

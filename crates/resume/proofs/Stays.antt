@@ -10,6 +10,7 @@ use native.Mathlib.Omega.{arith}
 use lib.Dec.{leb}
 use lib.ListN.{length}
 use borrow.Author.Tests.{leb-true, le-leb}
+use Rattle.history.proofs.Steps.{first-passes, list-fits, live}
 use Rattle.lists.specs.Lists.{pick, all, filter}
 use Rattle.lists.proofs.Facts.{clash, both-true}
 use Rattle.answer.specs.declared.Answer.{Answer}
@@ -44,15 +45,6 @@ use Rattle.decoded.proofs.Shapes.{Fits, clear, item-shape, items-shape}
 use Rattle.resume.proofs.Real.{RealEvent, RealHolder, Raw, real-packed, real-listed, no-words}
 
 -- ---- what an acceptance says
--- where the checks in order pass, each check passed
-first-passes : (x : Answer) (xs : List Answer) → passes (firstRefusal (x ∷ xs)) ≡ true → (passes x ≡ true) × (passes (firstRefusal xs) ≡ true)
-unfolding firstRefusal
-first-passes x xs e = by-test (passes x) refl e
-  where
-    by-test : (t : Bool) → passes x ≡ t → passes (pick t (firstRefusal xs) x) ≡ true → (passes x ≡ true) × (passes (firstRefusal xs) ≡ true)
-    by-test true p q = (p, q)
-    by-test false p q = clash (sym q ∙ p)
-
 -- "A resulting witness list above 16 is refused (38)."
 few-members : (xs : List Item) → passes (changeOf xs .answer) ≡ true → length xs ≤ 16
 unfolding changeOf
@@ -65,18 +57,7 @@ few-members xs p = by-test (leb (length xs) 16) refl p
     by-test false e q = clash (sym q)
 
 few-witnesses : (s : KeyState) (e : Event) → passes (rotates s e) ≡ true → length (newWitnesses s (e .body)) ≤ 16
-unfolding rotation rewitness
-few-witnesses s e p =
-    let q = first-passes _ _ (first-passes _ _ (first-passes _ _ (first-passes _ _ (first-passes _ _ p .1) .1) .1) .1) .1 in
-    let r = first-passes _ _ q .0 in
-    few-members (newWitnesses s (e .body)) (first-passes _ _ (first-passes _ _ r .1) .0)
-
-live : (s : KeyState) (x : Answer) → passes (pick (mayMove s) x (refused 10 0 0)) ≡ true → passes x ≡ true
-live s x p = by-test (mayMove s) p
-  where
-    by-test : (t : Bool) → passes (pick t x (refused 10 0 0)) ≡ true → passes x ≡ true
-    by-test true q = q
-    by-test false q = clash (sym q)
+few-witnesses s e p = few-members (newWitnesses s (e .body)) (list-fits s e p)
 
 abbrev Took : Ilk → Holder → Event → Type 0
 Took Inception h e = Unit

@@ -1,0 +1,55 @@
+use Rattle.snapshot.proofs.Laws.{same-bytes}
+use Rattle.lines.proofs.Laws.{reached-held, reached-empty}
+use Rattle.state.proofs.Laws.{is-held}
+use borrow.Author.Tests.{not-true, not-false}
+use mathlib.Core.Bool.{true, false}
+use mathlib.Core.Path.{sym}
+use Prim.Native.Nat.{_-_}
+use borrow.Author.Needs.{needs}
+use Rattle.lines.proofs.put_reached.Statement.{statement}
+use Rattle.lines.proofs.put_reached.Tie as tie
+
+slice-aggregate-put-bytes : tie.Need-slice-aggregate-put-bytes
+slice-aggregate-put-bytes c = search needs
+
+put-bytes-requires : tie.Need-put-bytes-requires
+put-bytes-requires c κs =
+    let a = c .before .before .before .before .args in
+    let e = reached-empty (a .behind) (a .h) (is-held (a .h) false (not-true (a .h .held) (c .before .before .if1 .taken))) in
+    rw e at (c .before .before .before .before .pre)
+
+same-length : tie.Need-same-length
+same-length c = search needs
+
+returns : tie.Need-returns
+returns c =
+    let a = c .before .before .before .before .before .before .before .args in
+    let e = reached-empty (a .behind) (a .h) (is-held (a .h) false (not-true (a .h .held) (c .before .before .before .before .before .if1 .taken))) in
+    same-bytes (sym e) (c .before .before .put-bytes .ensures)
+
+put-detail-requires : tie.Need-put-detail-requires
+put-detail-requires c κs =
+    let a = c .before .before .before .before .before .args in
+    let e = reached-held (a .behind) (a .h) (is-held (a .h) true (not-false (a .h .held) (c .before .before .before .if1 .left))) in
+    rw e at (c .before .before .before .before .before .pre)
+
+same-length-2 : tie.Need-same-length-2
+same-length-2 c = search needs
+
+returns-2 : tie.Need-returns-2
+returns-2 c =
+    let a = c .before .before .before .before .before .before .before .before .args in
+    let e = reached-held (a .behind) (a .h) (is-held (a .h) true (not-false (a .h .held) (c .before .before .before .before .before .before .if1 .left))) in
+    same-bytes (sym e) (c .before .before .put-detail .ensures)
+
+pub put-reached-spec : {M : Type 1} → statement M
+put-reached-spec =
+    tie.close
+    (tie.spec
+    slice-aggregate-put-bytes
+    put-bytes-requires
+    same-length
+    returns
+    put-detail-requires
+    same-length-2
+    returns-2)

@@ -1,0 +1,4 @@
+pub mod Laws
+pub mod Steps
+pub mod Theorems
+pub mod Saved

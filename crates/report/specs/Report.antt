@@ -1,0 +1,54 @@
+-- "Reads records from standard input. Each line has ordinal, mark (?? with answers 1 and 2), answer number, a, b .. Last: `end`,
+-- accepted (lines with answer 0, a KS too), offered (all lines), and sn written as a detail, or `-` for an empty holder."
+use Prim.Native.Nat.{ℕ, zero, suc, _+_}
+use mathlib.Core.List.{List, [], _∷_, _++_}
+use lib.Dec.{ltb}
+use lib.ListN.{length, drop}
+use Rattle.lists.specs.Lists.{pick}
+use Rattle.answer.specs.Answer.{passes}
+use Rattle.ingest.specs.declared.Offered.{Offered}
+use Rattle.empty.specs.Empty.{nothing}
+use Rattle.receive.specs.Received.{received}
+use Rattle.lines.specs.Lines.{line, endLine, written}
+use Rattle.report.specs.declared.Tally.{Tally}
+use Rattle.report.specs.declared.Told.{Told}
+
+-- a count of 64 bits stays at its last number, which no run reaches
+unfoldable pub oneMore : ℕ → ℕ
+oneMore n = pick (ltb n 0xFFFFFFFFFFFFFFFF) (n + 1) n
+
+-- "accepted (lines with answer 0, a KS too), offered (all lines)"
+unfoldable pub counted : Tally → Offered → Tally
+counted t o =
+    record {
+      holder = o .holder;
+      offered = oneMore (t .offered);
+      accepted = pick (passes (o .answer)) (oneMore (t .accepted)) (t .accepted);
+    }
+
+-- the line of an answer: its ordinal is the number of lines with it
+unfoldable pub lineOf : Tally → ℕ → Offered → List ℕ
+lineOf t mark o = line (oneMore (t .offered)) mark (o .answer)
+
+-- a line over the bytes of `out` from `at` on: the tally after it with the place behind it, and the bytes
+unfoldable pub told : Tally → ℕ → Offered → ℕ → List ℕ → Told × List ℕ
+told t mark o at out =
+    (record { tally = counted t o; at = written (lineOf t mark o) at out .0 }, written (lineOf t mark o) at out .1)
+
+unfoldable pub lastLine : Tally → List ℕ
+lastLine t = endLine (t .accepted) (t .offered) (t .holder)
+
+abbrev pub untold : Tally
+untold = record { holder = nothing; offered = 0; accepted = 0 }
+
+-- ---- What keyreport prints of a byte string: a line for each record, refused or not, until nothing is left, then the last line.
+-- n is how many lines there are at most.
+unfoldable pub reported : ℕ → Tally → List ℕ → List ℕ
+reported zero t s = []
+reported (suc n) t [] = lastLine t
+reported (suc n) t (b ∷ s) =
+    lineOf t (received (t .holder) (b ∷ s) .mark) (received (t .holder) (b ∷ s) .offered)
+    ++ reported n (counted t (received (t .holder) (b ∷ s) .offered)) (drop (received (t .holder) (b ∷ s) .next) (b ∷ s))
+
+abbrev pub report : List ℕ → List ℕ
+report s = reported (suc (length s)) untold s
