@@ -25,9 +25,9 @@ use Rattle.cursor.specs.Spans.{mapped}
 use Rattle.layout.specs.Records.{Content, snapshot, refusal, asSnapshot, snapshotAt, contentOf, First, record-of, truncated, firstOf, markOf, bodyLength}
 use Rattle.record.specs.declared.StateMarks.{StateMarks}
 use Rattle.record.specs.declared.StateScan as S
-use Rattle.record.specs.Marks.{stateIs}
-use Rattle.receive.specs.Received.{turnedAway, unlessBad, received}
-use Rattle.receive.specs.Gate.{refusalOfState}
+use Rattle.record.specs.Marks.{stateIs, refusalOfState}
+use Rattle.ingest.specs.Judgement.{turnedAway}
+use Rattle.receive.specs.Received.{unlessBad, received}
 use Rattle.receive.proofs.Laws.{bad-holder, good-holder}
 use Rattle.snapshot.specs.Saved.{saved}
 use Rattle.fold_record.specs.Folded.{bodyFolded}
@@ -39,7 +39,7 @@ use Rattle.attainable.specs.declared.Attained.{Attained}
 use Rattle.attainable.specs.Attainable.{attainableBy, attained}
 use Rattle.device.specs.declared.Kept.{Kept}
 use Rattle.device.specs.Kept.{none, one, alone, snapshotFirst, stateIn, keptIn}
-use Rattle.device.specs.Calls.{words, Left, settledIn, offeredIn, foldedFirst, foldedIn, asked, firstLength, lengthIn, thresholdAlone, attainableRead, attainableIn}
+use Rattle.device.specs.Calls.{words, Left, settledIn, offeredIn, foldedFirst, foldedIn, asked, lengthIn, thresholdAlone, attainableRead, attainableIn}
 
 -- ---- the frame: mark, length, body
 module _ (s : List ℕ) where
@@ -157,7 +157,7 @@ module _ (buf : List ℕ) (used : ℕ) (o : Offered) where
   settled-refused ne = rw (ne-eqb (o .answer .number) 0 ne)
 
   module _ (z : o .answer .number ≡ 0) (x : Answer) (after : List ℕ) (ex : x ≡ saved (o .holder) buf .0) (ea : after ≡ saved (o .holder) buf .1) where
-    pub settled-saved : x .number ≡ 0 → record { answer = x; bytes = after; used = x .a .low } ≡ settledIn buf used o
+    pub settled-saved : x .number ≡ 0 → record { answer = o .answer; bytes = after; used = x .a .low } ≡ settledIn buf used o
     unfolding settledIn
     settled-saved e =
         let k : saved (o .holder) buf .0 .number ≡ 0 = sym (ap (λ (y : Answer). y .number) ex) ∙ e in

@@ -18,7 +18,7 @@ use Rattle.state.specs.declared.Holder.{Holder}
 use Rattle.state.specs.State.{isHeld, holding}
 use Rattle.shape.specs.State.{holderShape}
 use Rattle.ingest.specs.declared.Offered.{Offered}
-use Rattle.ingest.specs.Judgement.{offered, settled}
+use Rattle.ingest.specs.Judgement.{turnedAway, offered, settled}
 use Rattle.empty.specs.Empty.{nothing}
 use Rattle.layout.specs.Records.{Content, event, snapshot, refusal, contentOf, First, record-of, truncated, firstOf, markOf, bodyLength}
 use Rattle.decoded.specs.Decoded.{Shaped}
@@ -26,10 +26,12 @@ use Rattle.decoded.proofs.Shapes.{decoded-shape}
 use Rattle.snapshot.specs.Bytes.{over}
 use Rattle.snapshot.specs.Saved.{bodyBytes, encoded, saved}
 use Rattle.snapshot.proofs.Size.{record-size}
-use Rattle.receive.specs.Received.{turnedAway, taken, unlessBad, firstTaken, received}
+use Rattle.receive.specs.Received.{taken, unlessBad, firstTaken, received}
 use Rattle.resume.specs.Resume.{Bytes}
 use Rattle.resume.proofs.Decoded.{bytes-take}
 use Rattle.resume.proofs.Theorems.{Sound, sound-nothing, body-bytes, sound-event, sound-snapshot, short-record, saves, reads-back}
+use Rattle.log.proofs.Laws.{call-given}
+use Rattle.log.proofs.Steps.{takes-zero}
 use Rattle.device.specs.declared.Kept.{Kept}
 use Rattle.device.specs.Kept.{none, one, alone, snapshotFirst, stateIn, keptIn}
 use Rattle.device.specs.Calls.{Left, untouched, afterSaving, settledIn, onState, offeredIn, foldedFirst, foldedIn}
@@ -170,16 +172,22 @@ abbrev Same : List ℕ → ℕ → Left → Type 0
 Same buf used l = passes (l .answer) ≡ false → (l .bytes ≡ buf) × (l .used ≡ used)
 
 module _ (buf : List ℕ) (used : ℕ) where
-  same-saved : (h : Holder) → Same buf used (afterSaving used (saved h buf))
-  same-saved h p = (saved-untouched h buf p, rw p)
+  -- where saving did not pass, nothing was written; where it did, the answer is the record's
+  same-saved : (x : Answer) (h : Holder) → passes x ≡ true → Same buf used (afterSaving used x (saved h buf))
+  same-saved x h a = by-test (passes (saved h buf .0)) refl
+    where
+      by-test : (t : Bool) → passes (saved h buf .0) ≡ t
+          → Same buf used (pick t (record { answer = x; bytes = saved h buf .1; used = saved h buf .0 .a .low }) (record { answer = saved h buf .0; bytes = saved h buf .1; used = used }))
+      by-test true e p = clash (sym a ∙ p)
+      by-test false e p = (saved-untouched h buf e, refl)
 
   same-settled : (o : Offered) → Same buf used (settledIn buf used o)
   unfolding settledIn
-  same-settled o = by-test (passes (o .answer))
+  same-settled o = by-test (passes (o .answer)) refl
     where
-      by-test : (t : Bool) → Same buf used (pick t (afterSaving used (saved (o .holder) buf)) (untouched buf used (o .answer)))
-      by-test true = same-saved (o .holder)
-      by-test false = λ p. (refl, refl)
+      by-test : (t : Bool) → passes (o .answer) ≡ t → Same buf used (pick t (afterSaving used (o .answer) (saved (o .holder) buf)) (untouched buf used (o .answer)))
+      by-test true e = same-saved (o .answer) (o .holder) e
+      by-test false e = λ p. (refl, refl)
 
   same-state : (f : Holder → Offered) (k : Kept) → Same buf used (onState buf used f k)
   same-state f k = by-test (eqb (k .number) 0)
@@ -207,10 +215,17 @@ module _ (buf : List ℕ) (used : ℕ) (s : List ℕ) (bytes : Bytes buf) (input
   abbrev next : Holder
   next = made buf used s .holder
 
+  -- "Details a and b are 0 unless named"
+  zero : made buf used s .answer ≡ accepted
+  unfolding received
+  zero =
+      let e = call-given (keptIn buf used .holder) (length s) (firstOf s) in
+      ap (λ (o : Offered). o .answer) e ∙ takes-zero (keptIn buf used .holder) (firstOf s) (ap (λ (o : Offered). passes (o .answer)) (sym e) ∙ took)
+
   pub saved-in : size next ≤ length buf
-      → offeredIn buf used s ≡ record { answer = refused 0 (size next) 0; bytes = over 0 (encoded (next .state)) buf; used = size next }
+      → offeredIn buf used s ≡ record { answer = accepted; bytes = over 0 (encoded (next .state)) buf; used = size next }
   unfolding offeredIn settledIn
-  saved-in room = rw (eq-eqb (keptIn buf used .number) 0 good, took, saves next (fine .sound) (fine .held took) buf room)
+  saved-in room = rw (eq-eqb (keptIn buf used .number) 0 good, took, saves next (fine .sound) (fine .held took) buf room, zero)
 
   pub found-again : size next ≤ length buf → keptIn (offeredIn buf used s .bytes) (offeredIn buf used s .used) ≡ one next
   found-again room = rw (saved-in room) (kept-back next (fine .sound) (fine .held took) buf room)

@@ -16,7 +16,9 @@ use Rattle.layout.specs.Records.{First, record-of, truncated, firstOf}
 use Rattle.format.specs.Parse.{Parse, got, bad, _>>=_, ended}
 use Rattle.format.specs.Fields.{thresholdAt}
 use Rattle.snapshot.specs.Saved.{saved}
-use Rattle.receive.specs.Received.{turnedAway, unlessBad, received}
+use Rattle.ingest.specs.Judgement.{turnedAway}
+use Rattle.receive.specs.Received.{unlessBad, received}
+use Rattle.log.specs.Log.{nextIn}
 use Rattle.fold_record.specs.Folded.{foldTaken}
 use Rattle.attainable.specs.declared.Attained.{Attained}
 use Rattle.attainable.specs.Attainable.{attainableBy, attained}
@@ -38,12 +40,13 @@ abbrev pub untouched : List ℕ → ℕ → Answer → Left
 untouched buf used x = record { answer = x; bytes = buf; used = used }
 
 -- saving "answers 0 with the whole record's length": so many bytes are used now. 41 touches nothing.
-abbrev pub afterSaving : ℕ → Answer × List ℕ → Left
-afterSaving used (x, buf) = record { answer = x; bytes = buf; used = pick (passes x) (x .a .low) used }
+abbrev pub afterSaving : ℕ → Answer → Answer × List ℕ → Left
+afterSaving used x (y, buf) =
+    pick (passes y) (record { answer = x; bytes = buf; used = y .a .low }) (record { answer = y; bytes = buf; used = used })
 
 -- a refusal stands; a state that was accepted is saved over the buffer
 unfoldable pub settledIn : List ℕ → ℕ → Offered → Left
-settledIn buf used o = pick (passes (o .answer)) (afterSaving used (saved (o .holder) buf)) (untouched buf used (o .answer))
+settledIn buf used o = pick (passes (o .answer)) (afterSaving used (o .answer) (saved (o .holder) buf)) (untouched buf used (o .answer))
 
 -- "state first, then record": bytes that hold no state come before anything of the record
 abbrev pub onState : List ℕ → ℕ → (Holder → Offered) → Kept → Left
@@ -69,12 +72,8 @@ asked s =
     (refused (stateIn s .number) 0 0)
 
 -- ---- length: how many bytes the first record takes, refused or not; all of them where it is cut short
-abbrev pub firstLength : ℕ → First → ℕ
-firstLength end (record-of mark c next) = next
-firstLength end truncated = end
-
 unfoldable pub lengthIn : List ℕ → ℕ
-lengthIn s = firstLength (length s) (firstOf s)
+lengthIn s = nextIn s (firstOf s)
 
 -- ---- attainable: a threshold as it stands in a record, and nothing behind it
 unfoldable pub thresholdAlone : List ℕ → ℕ → Parse Threshold

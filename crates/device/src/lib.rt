@@ -4,8 +4,6 @@ ghost use Prim.Native.Nat.{_+_, _*_};
 ghost use lib.ListN.{length};
 ghost use Rattle.format.specs.Parse.{Parse};
 ghost use Rattle.layout.specs.Records.{asSnapshot, snapshotAt, truncated, firstOf};
-ghost use Rattle.receive.specs.Received.{turnedAway};
-ghost use Rattle.receive.specs.Gate.{refusalOfState};
 ghost use Rattle.snapshot.specs.Bytes.{flagByte};
 ghost use mathlib.Core.Bool.{false};
 ghost use Rattle.attainable.specs.Attainable.{attained};
@@ -34,22 +32,13 @@ fn none(which: u8) -> Kept
     }
 }
 
-fn refusal_of_state(x: StateScan) -> u8
-    ensures { λ r. ⌜ r ≡ refusalOfState x ⌝ }
-{
-    match x {
-        StateScan::Of(_, _) => 3,
-        StateScan::No(k) => k,
-    }
-}
-
 // A snapshot's body; `whole` says that nothing stands behind it.
 fn of_body(body: &[u8], whole: bool) -> Kept
     ensures { λ r. ⌜ r ≡ alone whole (asSnapshot (snapshotAt (now (body .entry)) 0)) ⌝ }
 {
     let scan = record::scan_snapshot(body, 0);
     let StateScan::Of(m, _) = scan else {
-        return none(refusal_of_state(scan));
+        return none(record::refusal_of_state(scan));
     };
     if !whole {
         return none(3);
@@ -118,11 +107,12 @@ fn settle(o: Offered, state: &mut [u8], used: &mut usize) -> Answer
     }
     let next = o.holder;
     let y = snapshot::save(next, state);
-    if y.number == 0 {
-        let a = y.a;
-        *used = a.low as usize;
+    if y.number != 0 {
+        return y;
     }
-    y
+    let a = y.a;
+    *used = a.low as usize;
+    x
 }
 
 fn offer(state: &mut [u8], used: &mut usize, input: &[u8]) -> Answer
@@ -158,25 +148,15 @@ pub extern "C" fn keystate_offer(
     tell(x, details)
 }
 
-fn refuse(h: Holder, which: u8) -> Offered
-    ensures { λ r. ⌜ r ≡ turnedAway h which ⌝ }
-{
-    let x = answer::refuse(which, 0, 0);
-    Offered {
-        answer: x,
-        holder: h,
-    }
-}
-
 // "is 1 and ends the input"
 fn cut_short(before: Holder) -> Offered
     ensures { λ r. ⌜ r ≡ foldedFirst before truncated ⌝ }
 {
     let n = shape::of_holder(before);
     if n != 0 {
-        return refuse(before, n);
+        return ingest::refuse(before, n);
     }
-    refuse(before, 1)
+    ingest::refuse(before, 1)
 }
 
 fn fold_first(before: Holder, s: &[u8]) -> Offered
