@@ -4,10 +4,7 @@
 # its emulator where the machine is no x86-64.
 command_of() {
     local kit tools emulator
-    kit=${RATTLE_HOME:-$(cd "$(dirname "$(readlink -f "$(command -v rt)")")/.." && pwd -P)}
-    tools=$kit/on/$(uname -m)/toolchain
-    emulator=$tools/bin/qemu-x86_64
-    [ -x "$emulator" ] || emulator=
+    . "$top/tools/kit.sh"
     echo "$emulator $tools/lib/ld-linux-x86-64.so.2 --library-path $tools/lib $top/target/bin/$1"
 }
 
