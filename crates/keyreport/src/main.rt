@@ -3,15 +3,15 @@ ghost use mathlib.Core.Path.{_≡_};
 ghost use Prim.Native.Nat.{_+_, _*_, _≤_};
 ghost use lib.ListN.{length};
 ghost use Rattle.receive.specs.Received.{bodyTaken};
-ghost use Rattle.report.specs.Report.{told};
 ghost use Rattle.keyreport.specs.Run.{markAt, bodyAt, Fits};
+use ingest::Offered;
 use report::Tally;
-use report::Told;
+use state::Holder;
 use stream::Next;
 use stream::Place;
 use stream::Span;
 
-// The window holds the longest good record, 10,089 bytes, and one byte more.
+// The window holds the longest good record, 10,089 bytes, and more.
 const WINDOW: usize = 16384;
 
 const OUT: usize = 4096;
@@ -43,47 +43,54 @@ fn pair(x: u8, y: u8) -> u16
     (x as u16) * 256 + (y as u16)
 }
 
-// A record of the window is offered, and its line written into `out`.
-fn step(t: Tally, window: &[u8], place: Place, out: &mut [u8], at: usize) -> Told
+fn mark_at(window: &[u8], place: Place) -> u16
     requires { ⌜ place .from + 4 ≤ place .to ⌝ }
     requires { ⌜ place .to ≤ length (now window) ⌝ }
-    ensures { λ r. ⌜ r ≡ told t (markAt (now (window .entry)) place) (bodyTaken (t .holder) (markAt (now (window .entry)) place) (bodyAt (now (window .entry)) place)) at (now (out .entry)) .0 ⌝ }
-    ensures { λ _. ⌜ now (out .exit) ≡ told t (markAt (now (window .entry)) place) (bodyTaken (t .holder) (markAt (now (window .entry)) place) (bodyAt (now (window .entry)) place)) at (now (out .entry)) .1 ⌝ }
+    ensures { λ r. ⌜ r ≡ markAt (now (window .entry)) place ⌝ }
 {
     let from = place.from;
-    let to = place.to;
-    let body = from + 4;
-    let mark = pair(window[from], window[from + 1]);
-    report::tell(t, mark, &window[body..to], out, at)
+    pair(window[from], window[from + 1])
 }
 
-fn end(t: Tally, out: &mut [u8], at: usize)
+// A record of the window is offered to the holder.
+fn offer(h: Holder, mark: u16, window: &[u8], place: Place) -> Offered
+    requires { ⌜ place .from + 4 ≤ place .to ⌝ }
+    requires { ⌜ place .to ≤ length (now window) ⌝ }
+    ensures { λ r. ⌜ r ≡ bodyTaken h mark (bodyAt (now (window .entry)) place) ⌝ }
+{
+    let body = place.from + 4;
+    let to = place.to;
+    receive::of_body(h, mark, &window[body..to])
+}
+
+fn end(t: Tally, h: Holder, out: &mut [u8], at: usize)
     requires { ⌜ at + 111 ≤ length (now out) ⌝ }
 {
-    let behind = report::tell_end(t, out, at);
+    let behind = report::tell_end(t, h, out, at);
     stream::write_all(&out[..behind]);
 }
 
-fn cut(t: Tally, out: &mut [u8], at: usize)
+fn cut(t: Tally, h: Holder, out: &mut [u8], at: usize)
     requires { ⌜ at + 111 ≤ length (now out) ⌝ }
 {
-    let last = report::tell_cut(t, out, at);
+    let answer = report::cut(h);
+    let last = report::tell(t, 0, answer, out, at);
     let tally = last.tally;
     let room = make_room(out, last.at);
     let Room::From(behind) = room else {
         return;
     };
-    end(tally, out, behind)
+    end(tally, h, out, behind)
 }
 
 // No further record: the input ended, inside a record or behind one, or a read failed. Then the lines so far are written, and no
 // last one.
-fn finish(t: Tally, next: Next, out: &mut [u8], at: usize)
+fn finish(t: Tally, h: Holder, next: Next, out: &mut [u8], at: usize)
     requires { ⌜ at + 111 ≤ length (now out) ⌝ }
 {
     match next {
-        Next::Cut => cut(t, out, at),
-        Next::Ended => end(t, out, at),
+        Next::Cut => cut(t, h, out, at),
+        Next::Ended => end(t, h, out, at),
         Next::Record(_) => {}
         Next::Failed => {
             stream::write_all(&out[..at]);
@@ -95,6 +102,7 @@ fn finish(t: Tally, next: Next, out: &mut [u8], at: usize)
 fn run(window: &mut [u8], out: &mut [u8])
     requires { ⌜ 111 ≤ length (now out) ⌝ }
 {
+    let mut h = empty::nothing();
     let mut t = report::begin();
     let mut span = Span { from: 0, to: 0 };
     let mut at: usize = 0;
@@ -103,15 +111,20 @@ fn run(window: &mut [u8], out: &mut [u8])
         turns -= 1;
         let next = stream::read_next(window, span);
         let Next::Record(place) = next else {
-            finish(t, next, out, at);
+            finish(t, h, next, out, at);
             return;
         };
-        let last = step(t, window, place, out, at);
+        let mark = mark_at(window, place);
+        let o = offer(h, mark, window, place);
+        let answer = o.answer;
+        let last = report::tell(t, mark, answer, out, at);
         let room = make_room(out, last.at);
         let Room::From(behind) = room else {
             return;
         };
+        let holder = o.holder;
         let tally = last.tally;
+        h = holder;
         t = tally;
         span = Span {
             from: place.to,

@@ -10,17 +10,19 @@ use mathlib.Core.Logic.{_⊎_, ⊎-elim}
 use Prim.Native.Nat.{ℕ, suc, _+_, _≤_, _<_}
 use native.Mathlib.Nat.{not-suc-le-zero}
 use native.Mathlib.Omega.{arith}
-use lib.Dec.{leb}
+use lib.Dec.{leb, eqb}
 use lib.ListN.{length, take, drop, length-take, length-drop}
 use lib.Seq.{take-take, drop-length}
 use borrow.Author.Tests.{le-leb, lt-leb}
 use Rattle.lists.specs.Lists.{pick, both}
 use Rattle.state.specs.declared.Holder.{Holder}
+use Rattle.shape.specs.State.{holderShape}
 use Rattle.layout.specs.Records.{Content, record-of, truncated, contentOf, firstOf, markOf, bodyLength}
 use Rattle.decoded.proofs.Bound.{first-bytes}
-use Rattle.receive.specs.Received.{taken, unlessBad, bodyTaken, received}
+use Rattle.receive.specs.Received.{turnedAway, taken, unlessBad, bodyTaken, received}
 use Rattle.report.specs.declared.Tally.{Tally}
-use Rattle.report.specs.Report.{counted, lineOf, lastLine, reported}
+use Rattle.report.proofs.Laws.{none}
+use Rattle.report.specs.Report.{counted, lineOf, lastLine, cutAnswer, reported}
 
 -- a byte string that begins with a whole record
 abbrev pub Whole : List ℕ → Type 0
@@ -38,10 +40,6 @@ whole-received : (h : Holder) (s : List ℕ) → Whole s
     → received h s ≡ record { offered = bodyTaken h (markOf s) (take (bodyLength s) (drop 4 s)); mark = markOf s; next = 4 + bodyLength s }
 unfolding received firstOf bodyTaken
 whole-received h s w = rw (le-leb 4 (length s) (w .0), le-leb (4 + bodyLength s) (length s) (w .1))
-
-none : firstOf [] ≡ truncated
-unfolding firstOf
-none = refl
 
 cut-received : (h : Holder) (s : List ℕ) → firstOf s ≡ truncated → received h s ≡ record { offered = received h [] .offered; mark = 0; next = length s }
 unfolding received
@@ -78,29 +76,40 @@ decides h s k w e = ⊎-elim all first e
         ap (λ (x : Content). unlessBad h (taken h x)) c
 
 -- ---- The steps
-next-line : (n : ℕ) (t : Tally) (s : List ℕ) → 0 < length s
-    → reported (suc n) t s
-    ≡ lineOf t (received (t .holder) s .mark) (received (t .holder) s .offered)
-    ++ reported n (counted t (received (t .holder) s .offered)) (drop (received (t .holder) s .next) s)
+next-line : (n : ℕ) (t : Tally) (h : Holder) (s : List ℕ) → 0 < length s
+    → reported (suc n) t h s
+    ≡ lineOf t (received h s .mark) (received h s .offered .answer)
+    ++ reported n (counted t (received h s .offered .answer)) (received h s .offered .holder) (drop (received h s .next) s)
 unfolding reported
-next-line n t [] h = absurd (not-suc-le-zero h)
-next-line n t (b ∷ s) h = refl
+next-line n t h [] l = absurd (not-suc-le-zero l)
+next-line n t h (b ∷ s) l = refl
 
-pub record-step : (n : ℕ) (t : Tally) (s : List ℕ) (k : ℕ) → Whole s → Enough k s
-    → reported (suc n) t s
-    ≡ lineOf t (markOf s) (bodyTaken (t .holder) (markOf s) (take k (drop 4 s)))
-    ++ reported n (counted t (bodyTaken (t .holder) (markOf s) (take k (drop 4 s)))) (drop (4 + bodyLength s) s)
-record-step n t s k w e =
-    rw (next-line n t s (omega (arith, w .0)), whole-received (t .holder) s w, decides (t .holder) s k w e)
+pub record-step : (n : ℕ) (t : Tally) (h : Holder) (s : List ℕ) (k : ℕ) → Whole s → Enough k s
+    → reported (suc n) t h s
+    ≡ lineOf t (markOf s) (bodyTaken h (markOf s) (take k (drop 4 s)) .answer)
+    ++ reported
+    n
+    (counted t (bodyTaken h (markOf s) (take k (drop 4 s)) .answer))
+    (bodyTaken h (markOf s) (take k (drop 4 s)) .holder)
+    (drop (4 + bodyLength s) s)
+record-step n t h s k w e = rw (next-line n t h s (omega (arith, w .0)), whole-received h s w, decides h s k w e)
 
-pub cut-step : (n : ℕ) (t : Tally) (s : List ℕ) → 0 < length s → Cut s
-    → reported (suc (suc n)) t s
-    ≡ lineOf t 0 (received (t .holder) [] .offered) ++ lastLine (counted t (received (t .holder) [] .offered))
+pub cut-step : (n : ℕ) (t : Tally) (h : Holder) (s : List ℕ) → 0 < length s → Cut s
+    → reported (suc (suc n)) t h s ≡ lineOf t 0 (cutAnswer h) ++ lastLine (counted t (cutAnswer h)) (received h [] .offered .holder)
 unfolding reported
-cut-step n t s h c =
+cut-step n t h s l c =
     let e : firstOf s ≡ truncated = ⊎-elim (no-head s) (no-body s) c in
-    rw (next-line (suc n) t s h, cut-received (t .holder) s e, drop-length s)
+    rw (next-line (suc n) t h s l, cut-received h s e, drop-length s)
 
-pub end-step : (n : ℕ) (t : Tally) → reported (suc n) t [] ≡ lastLine t
+-- "Every refusal leaves state and buffers untouched."
+pub cut-keeps : (h : Holder) → received h [] .offered .holder ≡ h
+unfolding received
+cut-keeps h = rw none (go (eqb (holderShape h) 0))
+  where
+    go : (g : Bool) → pick g (turnedAway h 1) (turnedAway h (holderShape h)) .holder ≡ h
+    go true = refl
+    go false = refl
+
+pub end-step : (n : ℕ) (t : Tally) (h : Holder) → reported (suc n) t h [] ≡ lastLine t h
 unfolding reported
-end-step n t = refl
+end-step n t h = refl

@@ -5,8 +5,9 @@ use mathlib.Core.List.{List, [], _∷_, _++_}
 use lib.Dec.{ltb}
 use lib.ListN.{length, drop}
 use Rattle.lists.specs.Lists.{pick}
+use Rattle.answer.specs.declared.Answer.{Answer}
 use Rattle.answer.specs.Answer.{passes}
-use Rattle.ingest.specs.declared.Offered.{Offered}
+use Rattle.state.specs.declared.Holder.{Holder}
 use Rattle.empty.specs.Empty.{nothing}
 use Rattle.receive.specs.Received.{received}
 use Rattle.lines.specs.Lines.{line, endLine, written}
@@ -18,37 +19,41 @@ unfoldable pub oneMore : ℕ → ℕ
 oneMore n = pick (ltb n 0xFFFFFFFFFFFFFFFF) (n + 1) n
 
 -- "accepted (lines with answer 0, a KS too), offered (all lines)"
-unfoldable pub counted : Tally → Offered → Tally
-counted t o =
-    record {
-      holder = o .holder;
-      offered = oneMore (t .offered);
-      accepted = pick (passes (o .answer)) (oneMore (t .accepted)) (t .accepted);
-    }
+unfoldable pub counted : Tally → Answer → Tally
+counted t x =
+    record { offered = oneMore (t .offered); accepted = pick (passes x) (oneMore (t .accepted)) (t .accepted) }
 
 -- the line of an answer: its ordinal is the number of lines with it
-unfoldable pub lineOf : Tally → ℕ → Offered → List ℕ
-lineOf t mark o = line (oneMore (t .offered)) mark (o .answer)
+unfoldable pub lineOf : Tally → ℕ → Answer → List ℕ
+lineOf t mark x = line (oneMore (t .offered)) mark x
 
 -- a line over the bytes of `out` from `at` on: the tally after it with the place behind it, and the bytes
-unfoldable pub told : Tally → ℕ → Offered → ℕ → List ℕ → Told × List ℕ
-told t mark o at out =
-    (record { tally = counted t o; at = written (lineOf t mark o) at out .0 }, written (lineOf t mark o) at out .1)
+unfoldable pub told : Tally → ℕ → Answer → ℕ → List ℕ → Told × List ℕ
+told t mark x at out =
+    (record { tally = counted t x; at = written (lineOf t mark x) at out .0 }, written (lineOf t mark x) at out .1)
 
-unfoldable pub lastLine : Tally → List ℕ
-lastLine t = endLine (t .accepted) (t .offered) (t .holder)
+unfoldable pub lastLine : Tally → Holder → List ℕ
+lastLine t h = endLine (t .accepted) (t .offered) h
+
+-- bytes that are no record: "is 1 and ends the input"
+abbrev pub cutAnswer : Holder → Answer
+cutAnswer h = received h [] .offered .answer
 
 abbrev pub untold : Tally
-untold = record { holder = nothing; offered = 0; accepted = 0 }
+untold = record { offered = 0; accepted = 0 }
 
 -- ---- What keyreport prints of a byte string: a line for each record, refused or not, until nothing is left, then the last line.
 -- n is how many lines there are at most.
-unfoldable pub reported : ℕ → Tally → List ℕ → List ℕ
-reported zero t s = []
-reported (suc n) t [] = lastLine t
-reported (suc n) t (b ∷ s) =
-    lineOf t (received (t .holder) (b ∷ s) .mark) (received (t .holder) (b ∷ s) .offered)
-    ++ reported n (counted t (received (t .holder) (b ∷ s) .offered)) (drop (received (t .holder) (b ∷ s) .next) (b ∷ s))
+unfoldable pub reported : ℕ → Tally → Holder → List ℕ → List ℕ
+reported zero t h s = []
+reported (suc n) t h [] = lastLine t h
+reported (suc n) t h (b ∷ s) =
+    lineOf t (received h (b ∷ s) .mark) (received h (b ∷ s) .offered .answer)
+    ++ reported
+    n
+    (counted t (received h (b ∷ s) .offered .answer))
+    (received h (b ∷ s) .offered .holder)
+    (drop (received h (b ∷ s) .next) (b ∷ s))
 
 abbrev pub report : List ℕ → List ℕ
-report s = reported (suc (length s)) untold s
+report s = reported (suc (length s)) untold nothing s

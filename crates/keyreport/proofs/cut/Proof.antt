@@ -5,13 +5,16 @@ use borrow.Author.Needs.{needs}
 use Rattle.keyreport.proofs.cut.Statement.{statement}
 use Rattle.keyreport.proofs.cut.Tie as tie
 
-tell-cut-requires : tie.Need-tell-cut-requires
-tell-cut-requires c κs = search needs
+cut-requires : tie.Need-cut-requires
+cut-requires c κs = search needs
+
+tell-requires : tie.Need-tell-requires
+tell-requires c κs = search needs
 
 make-room-requires : tie.Need-make-room-requires
 make-room-requires c κs =
-    let a = c .before .before .before .before .before .before .before .args in
-    let h = told-in (a .t) 0 _ (a .at) (a .out .now) (c .before .before .before .before .tell-cut .result) (c .before .before .before .before .tell-cut .ensures .0) (c .before .before .before .before .before .before .before .pre) in
+    let a = c .before .before .before .before .before .before .before .before .args in
+    let h = told-in (a .t) 0 (c .before .before .before .before .before .before .cut .result) (a .at) (a .out .now) (c .before .before .before .before .tell .result) (c .before .before .before .before .tell .ensures .0) (c .before .before .before .before .before .before .before .before .pre) in
     let e = c .before .before .before .out .given in
     (omega arith, omega arith)
 
@@ -40,7 +43,8 @@ pub cut-spec : {M : Type 1} → statement M
 cut-spec =
     tie.close
     (tie.spec
-    tell-cut-requires
+    cut-requires
+    tell-requires
     make-room-requires
     enum-known-room
     enum-told

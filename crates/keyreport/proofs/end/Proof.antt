@@ -11,14 +11,14 @@ tell-end-requires c κs = search needs
 slice-reshare-prefix-write-all : tie.Need-slice-reshare-prefix-write-all
 slice-reshare-prefix-write-all c =
     let a = c .before .before .before .before .before .args in
-    let h = end-in (a .t) (a .at) (a .out .now) (c .before .before .tell-end .result) (c .before .before .tell-end .ensures .0) (c .before .before .before .before .before .pre) in
+    let h = end-in (a .t) (a .h) (a .at) (a .out .now) (c .before .before .tell-end .result) (c .before .before .tell-end .ensures .0) (c .before .before .before .before .before .pre) in
     let e = c .before .out .given in
     omega arith
 
 slice-aggregate-write-all : tie.Need-slice-aggregate-write-all
 slice-aggregate-write-all c =
     let a = c .before .before .before .before .before .before .args in
-    let h = end-in (a .t) (a .at) (a .out .now) (c .before .before .before .tell-end .result) (c .before .before .before .tell-end .ensures .0) (c .before .before .before .before .before .before .pre) in
+    let h = end-in (a .t) (a .h) (a .at) (a .out .now) (c .before .before .before .tell-end .result) (c .before .before .before .tell-end .ensures .0) (c .before .before .before .before .before .before .pre) in
     let e = c .before .before .out .given in
     prefix-length (c .before .before .before .tell-end .result) _ (omega arith)
 

@@ -1,6 +1,6 @@
 use Rattle.keyreport.proofs.Laws.{told-in, fits-from, found}
-use mathlib.Core.Path.{_≡_}
-use Prim.Native.Nat.{_+_, _≤_, _-_}
+use mathlib.Core.Path.{_≡_, _∙_}
+use Prim.Native.Nat.{_+_, _≤_, _<_, _-_}
 use native.Mathlib.Omega.{arith}
 use borrow.Author.Needs.{needs}
 use lib.ListN.{length}
@@ -8,10 +8,13 @@ use Rattle.keyreport.proofs.run.Statement.{statement}
 use Rattle.keyreport.proofs.run.Tie as tie
 
 abbrev Inv-loop : tie.InvT-loop
-Inv-loop window₀ out₀ t₀ span₀ at₀ turns₀ window out t span at turns = (at + 111 ≤ length out) × (length out ≡ length out₀) × (length window ≡ length window₀)
+Inv-loop window₀ out₀ h₀ t₀ span₀ at₀ turns₀ window out h t span at turns = (at + 111 ≤ length out) × (length out ≡ length out₀) × (length window ≡ length window₀)
 
 abbrev μ-loop : tie.MeasureT-loop
-μ-loop window₀ out₀ t₀ span₀ at₀ turns₀ window out t span at turns = turns
+μ-loop window₀ out₀ h₀ t₀ span₀ at₀ turns₀ window out h t span at turns = turns
+
+nothing-requires : tie.Need-nothing-requires Inv-loop μ-loop
+nothing-requires c κs = search needs
 
 begin-requires : tie.Need-begin-requires Inv-loop μ-loop
 begin-requires c κs = search needs
@@ -40,18 +43,29 @@ same-length-2 c = search needs
 returns : tie.Need-returns Inv-loop μ-loop
 returns c = search needs
 
-step-requires : tie.Need-step-requires Inv-loop μ-loop
-step-requires c κs =
-    let l = c .before .before .before .before .before .before .before .before .before .before .loop in
-    let s = found (l .window) (c .before .before .before .before .before .before .before .read-next .last .0) (l .span) (c .before .before .before .next .given .0 .0) (c .before .before .before .before .before .before .before .read-next .result) (c .before .before .before .next .given .1) (c .before .before .before .before .before .before .before .read-next .ensures) in
+mark-at-requires : tie.Need-mark-at-requires Inv-loop μ-loop
+mark-at-requires c κs =
+    let l = c .before .before .before .before .before .before .before .before .before .loop in
+    let s = found (l .window) (c .before .before .before .before .before .before .read-next .last .0) (l .span) (c .before .before .next .given .0 .0) (c .before .before .before .before .before .before .read-next .result) (c .before .before .next .given .1) (c .before .before .before .before .before .before .read-next .ensures) in
     let o = s .ordered in
     let i = s .within in
     (s .begins, omega arith)
 
+offer-requires : tie.Need-offer-requires Inv-loop μ-loop
+offer-requires c κs =
+    let l = c .before .before .before .before .before .before .before .before .before .before .before .loop in
+    let s = found (l .window) (c .before .before .before .before .before .before .before .before .read-next .last .0) (l .span) (c .before .before .before .before .next .given .0 .0) (c .before .before .before .before .before .before .before .before .read-next .result) (c .before .before .before .before .next .given .1) (c .before .before .before .before .before .before .before .before .read-next .ensures) in
+    let o = s .ordered in
+    let i = s .within in
+    (s .begins, omega arith)
+
+tell-requires : tie.Need-tell-requires Inv-loop μ-loop
+tell-requires c κs = search needs
+
 make-room-requires : tie.Need-make-room-requires Inv-loop μ-loop
 make-room-requires c κs =
-    let l = c .before .before .before .before .before .before .before .before .before .before .before .before .before .before .loop in
-    let h = told-in (l .t) _ _ (l .at) (l .out) (c .before .before .before .step .result) (c .before .before .before .step .ensures .0) (l .inv .0) in
+    let l = c .before .before .before .before .before .before .before .before .before .before .before .before .before .before .before .before .before .before .loop in
+    let h = told-in (l .t) (c .before .before .before .before .before .before .before .before .mark-at .result) (c .before .before .before .before .before .before .offer .result .answer) (l .at) (l .out) (c .before .before .before .tell .result) (c .before .before .before .tell .ensures .0) (l .inv .0) in
     let e = c .before .before .out2 .given in
     (omega arith, omega arith)
 
@@ -62,23 +76,23 @@ enum-told : tie.Need-enum-told Inv-loop μ-loop
 enum-told c = search needs
 
 same-length-3 : tie.Need-same-length-3 Inv-loop μ-loop
-same-length-3 c = search needs
+same-length-3 c = c .before .before .before .before .before .before .before .before .before .before .before .before .before .before .before .before .before .window .given ∙ c .before .before .before .before .before .before .before .before .before .before .before .before .before .before .before .before .before .before .before .before .before .loop .inv .2
 
 same-length-4 : tie.Need-same-length-4 Inv-loop μ-loop
-same-length-4 c = search needs
+same-length-4 c = c .before .before .before .before .before .out2 .given ∙ c .before .before .before .before .before .before .before .before .before .before .before .before .before .before .before .before .before .before .before .before .before .loop .inv .1
 
 returns-2 : tie.Need-returns-2 Inv-loop μ-loop
 returns-2 c = search needs
 
 loop-less : tie.Need-loop-less Inv-loop μ-loop
-loop-less c = search needs
+loop-less c = let p : 0 < c .before .before .before .before .before .before .before .before .before .before .before .before .before .before .before .before .before .before .before .before .before .before .before .before .loop .turns = c .before .before .before .before .before .before .before .before .before .before .before .before .before .before .before .before .before .before .before .before .before .before .before .loop-test .taken in omega (arith, p)
 
 loop-again : tie.Need-loop-again Inv-loop μ-loop
 loop-again c =
-    let l = c .before .before .before .before .before .before .before .before .before .before .before .before .before .before .before .before .before .before .before .loop in
-    let e = c .before .before .before .before .before .before .before .out2 .given in
-    let w = c .before .before .before .before .before .before .before .before .before .before .before .before .before .before .before .window .given in
-    (fits-from _ (c .before .before .room .given .0 .0) (c .before .before .before .before .make-room .result) (c .before .before .room .given .1) (c .before .before .before .before .make-room .ensures), omega arith, omega arith)
+    let l = c .before .before .before .before .before .before .before .before .before .before .before .before .before .before .before .before .before .before .before .before .before .before .before .before .loop in
+    let e = c .before .before .before .before .before .before .before .before .out2 .given in
+    let w = c .before .before .before .before .before .before .before .before .before .before .before .before .before .before .before .before .before .before .before .before .window .given in
+    (fits-from _ (c .before .before .before .room .given .0 .0) (c .before .before .before .before .before .make-room .result) (c .before .before .before .room .given .1) (c .before .before .before .before .before .make-room .ensures), omega arith, omega arith)
 
 same-length-5 : tie.Need-same-length-5 Inv-loop μ-loop
 same-length-5 c = search needs
@@ -95,6 +109,7 @@ run-spec =
     (tie.spec
     Inv-loop
     μ-loop
+    nothing-requires
     begin-requires
     loop-holds
     sub-turns
@@ -104,7 +119,9 @@ run-spec =
     same-length
     same-length-2
     returns
-    step-requires
+    mark-at-requires
+    offer-requires
+    tell-requires
     make-room-requires
     enum-known-room
     enum-told

@@ -11,7 +11,7 @@ same-length : tie.Need-same-length
 same-length c = search needs
 
 returns : tie.Need-returns
-returns c = let a = c .before .before .before .before .before .before .args in ended (a .t) (a .at) (a .out .now) _ _ (c .before .before .put-end .ensures)
+returns c = let a = c .before .before .before .before .before .args in ended (a .t) (a .h) (a .at) (a .out .now) _ _ (c .before .before .put-end .ensures)
 
 pub tell-end-spec : {M : Type 1} → statement M
 tell-end-spec = tie.close (tie.spec put-end-requires same-length returns)
