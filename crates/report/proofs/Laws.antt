@@ -10,7 +10,8 @@ use Rattle.answer.specs.Answer.{refused}
 use Rattle.state.specs.declared.Holder.{Holder}
 use Rattle.shape.specs.State.{holderShape}
 use Rattle.layout.specs.Records.{firstOf, truncated}
-use Rattle.receive.specs.Received.{turnedAway, unlessBad, received}
+use Rattle.ingest.specs.Judgement.{turnedAway}
+use Rattle.receive.specs.Received.{unlessBad, received}
 use Rattle.lines.specs.Lines.{line, endLine, written}
 use Rattle.report.specs.declared.Tally.{Tally}
 use Rattle.report.specs.declared.Told.{Told}

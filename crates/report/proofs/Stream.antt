@@ -19,7 +19,8 @@ use Rattle.state.specs.declared.Holder.{Holder}
 use Rattle.shape.specs.State.{holderShape}
 use Rattle.layout.specs.Records.{Content, record-of, truncated, contentOf, firstOf, markOf, bodyLength}
 use Rattle.decoded.proofs.Bound.{first-bytes}
-use Rattle.receive.specs.Received.{turnedAway, taken, unlessBad, bodyTaken, received}
+use Rattle.ingest.specs.Judgement.{turnedAway}
+use Rattle.receive.specs.Received.{taken, unlessBad, bodyTaken, received}
 use Rattle.report.specs.declared.Tally.{Tally}
 use Rattle.report.proofs.Laws.{none}
 use Rattle.report.specs.Report.{counted, lineOf, lastLine, cutAnswer, reported}
