@@ -1,0 +1,45 @@
+# What examples/run and measure/stack share, sourced: building and running a C program over the x86-64 archive, on any machine.
+kit=$(dirname "$(dirname "$(rt doc)")")
+tools=$kit/on/$(uname -m)/toolchain
+work=target/device
+
+say() { echo "device: $*"; }
+
+# missing WHAT: a line, and where the variable CI is set an error
+missing() {
+    say "$1 is missing, so $2"
+    [ -z "${CI:-}" ] || exit 1
+}
+
+# library: target/device/libkeystate.a, proved and compiled by the kit
+library() {
+    mkdir -p "$work"
+    rt staticlib device >"$work/log" 2>&1 || { tail -n 20 "$work/log"; exit 1; }
+    cp target/staticlib/libdevice.a "$work/libkeystate.a"
+}
+
+# build_c SOURCE OUT [FLAG..]: by the machine's compiler on x86-64; else by the kit's, with the machine's headers
+build_c() {
+    local source=$1 out=$2
+    shift 2
+    if [ "$(uname -m)" = x86_64 ] && [ -z "${DEVICE_CROSS:-}" ]; then
+        cc -std=c99 -Wall -Wextra -Werror -Iinclude "$@" "$source" "$work/libkeystate.a" -o "$out"
+        return
+    fi
+    "$tools/bin/clang" --target=x86_64-unknown-linux-gnu -std=c99 -fPIE -Iinclude -isystem "$(cc -print-file-name=include)" \
+        -isystem "/usr/include/$(cc -print-multiarch)" -isystem /usr/include "$@" -c "$source" -o "$out.o"
+    "$tools/bin/ld.lld" -pie -dynamic-linker /lib64/ld-linux-x86-64.so.2 -o "$out" "$tools/lib/Scrt1.o" "$tools/lib/crti.o" \
+        "$tools/lib/crtbeginS.o" "$out.o" "$work/libkeystate.a" "$tools/lib/libc.so.6" "$tools/lib/libc_nonshared.a" \
+        "$tools/lib/libgcc.a" "$tools/lib/crtendS.o" "$tools/lib/crtn.o"
+}
+
+# run_c PROGRAM: directly on x86-64, else under the kit's emulator with the kit's loader
+run_c() {
+    if [ "$(uname -m)" = x86_64 ] && [ -z "${DEVICE_CROSS:-}" ]; then
+        "$1"
+        return
+    fi
+    local emulator=$tools/bin/qemu-x86_64
+    [ -x "$emulator" ] || emulator=''
+    ${emulator:+"$emulator"} "$tools/lib/ld-linux-x86-64.so.2" --library-path "$tools/lib" "$1"
+}
