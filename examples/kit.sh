@@ -1,6 +1,5 @@
 # What examples/run and measure/stack share, sourced: building and running a C program over the x86-64 archive, on any machine.
-kit=$(dirname "$(dirname "$(rt doc)")")
-tools=$kit/on/$(uname -m)/toolchain
+. tools/kit.sh
 work=target/device
 
 say() { echo "device: $*"; }
@@ -39,7 +38,5 @@ run_c() {
         "$1"
         return
     fi
-    local emulator=$tools/bin/qemu-x86_64
-    [ -x "$emulator" ] || emulator=''
-    ${emulator:+"$emulator"} "$tools/lib/ld-linux-x86-64.so.2" --library-path "$tools/lib" "$1"
+    run_built "$1"
 }
