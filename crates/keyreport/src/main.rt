@@ -14,7 +14,7 @@ use stream::Span;
 // The window holds the longest good record, 10,089 bytes, and more.
 const WINDOW: usize = 12288;
 
-const OUT: usize = 4096;
+const OUT: usize = 2048;
 
 // Where the next line begins, or a write that failed.
 enum Room {
