@@ -12,9 +12,9 @@ use stream::Place;
 use stream::Span;
 
 // The window holds the longest good record, 10,089 bytes, and more.
-const WINDOW: usize = 16384;
+const WINDOW: usize = 12288;
 
-const OUT: usize = 4096;
+const OUT: usize = 2048;
 
 // Where the next line begins, or a write that failed.
 enum Room {

@@ -77,10 +77,10 @@ held-of w₀ w old s x e h = rw e at h
 drop-taken : (xs : List ℕ) (a k : ℕ) → a ≤ length xs → drop a (take (a + k) xs) ≡ take k (drop a xs)
 drop-taken xs a k h = rw (take-add a k xs) (drop-at (take a xs) (take k (drop a xs)) a (length-take-le a xs h))
 
-part-same : (xs ys : List ℕ) (a k n : ℕ) → a ≤ length xs → a ≤ length ys → a + k ≤ n → take n xs ≡ take n ys → take k (drop a xs) ≡ take k (drop a ys)
+pub part-same : (xs ys : List ℕ) (a k n : ℕ) → a ≤ length xs → a ≤ length ys → a + k ≤ n → take n xs ≡ take n ys → take k (drop a xs) ≡ take k (drop a ys)
 part-same xs ys a k n h j l e = sym (drop-taken xs a k h) ∙ ap (drop a) (taken-less xs ys (a + k) n l e) ∙ drop-taken ys a k j
 
-same-size : (xs ys : List ℕ) → take 4 xs ≡ take 4 ys → sizeOf xs ≡ sizeOf ys
+pub same-size : (xs ys : List ℕ) → take 4 xs ≡ take 4 ys → sizeOf xs ≡ sizeOf ys
 same-size xs ys e = rw (byte-at 2 (omega arith), byte-at 3 (omega arith))
   where
     byte-at : (i : ℕ) → i < 4 → getD xs i 0 ≡ getD ys i 0
