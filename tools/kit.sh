@@ -7,14 +7,3 @@ emulator=$tools/bin/qemu-x86_64
 
 # run_built PROGRAM [WORD..]
 run_built() { ${emulator:+"$emulator"} "$tools/lib/ld-linux-x86-64.so.2" --library-path "$tools/lib" "$@"; }
-
-# run_within KIB PROGRAM [WORD..]: with so much stack
-run_within() {
-    local kib=$1
-    shift
-    if [ -n "$emulator" ]; then
-        "$emulator" -s $((kib * 1024)) "$tools/lib/ld-linux-x86-64.so.2" --library-path "$tools/lib" "$@"
-    else
-        (ulimit -s "$kib" && run_built "$@")
-    fi
-}
