@@ -1,0 +1,260 @@
+//! Times the proved machine beside the given Rust, on the same bytes, in one run. Run it by measure/time.
+//!
+//! Read: a record's bytes to what is judged (the Rust: its event and its signatures). Judge: that to the answer and the next
+//! state. Both: bytes to the next state, by the one-record call. Device: keystate_offer, which reads the state's bytes too and
+//! writes the next ones. Each round runs each of them in turn, so that a busy machine hits all alike.
+use std::hint::black_box;
+use std::time::Instant;
+
+use keri::{KeyState, KeyStateSnapshot, Signed};
+use oracle_lib::record::*;
+use oracle_lib::{reader, rust, writer};
+
+unsafe extern "C" {
+    fn timing_read(mark: u16, body: *const u8, len: usize, rounds: u64) -> u64;
+    fn timing_judge(state: *const u8, used: usize, mark: u16, body: *const u8, len: usize, rounds: u64) -> u64;
+    fn timing_both(state: *const u8, used: usize, input: *const u8, len: usize, rounds: u64) -> u64;
+    fn keystate_offer(state: *mut u8, capacity: usize, used: *mut usize, input: *const u8, len: usize, details: *mut [u64; 4]) -> u8;
+}
+
+// ---- Records
+
+#[derive(Clone, Copy)]
+struct Size {
+    keys: usize,
+    weighted: bool,
+    signatures: usize,
+    receipts: usize,
+    witnesses: usize,
+    /// So many witnesses are cut and as many added.
+    change: usize,
+}
+
+const ONE: Size = Size { keys: 1, weighted: false, signatures: 1, receipts: 0, witnesses: 0, change: 0 };
+const WIDEST: Size = Size { keys: 16, weighted: true, signatures: 48, receipts: 48, witnesses: 16, change: 16 };
+
+fn item(code: u8, number: usize) -> Item {
+    let mut item = [0x55; 33];
+    item[0] = code;
+    item[32] = number as u8;
+    item
+}
+
+fn items(code: u8, from: usize, count: usize) -> Vec<Item> {
+    (from..from + count).map(|n| item(code, n)).collect()
+}
+
+/// One clause of weights 1/8: checked sums stay within 64 bits for 16 of them.
+fn threshold(z: Size) -> Threshold {
+    if z.weighted { Threshold::Weighted(vec![vec![(1, 8); z.keys]]) } else { Threshold::Simple(z.keys as u64) }
+}
+
+/// No two are copies. Their bytes look random, as those of real ones do.
+fn signatures(count: usize, places: usize, ondex: bool) -> Vec<Signature> {
+    let mut seed: u64 = 88172645463325252;
+    let mut random = || {
+        seed ^= seed << 13;
+        seed ^= seed >> 7;
+        seed ^= seed << 17;
+        (seed >> 32) as u8
+    };
+    let mut one = |n: usize| {
+        let mut raw = [0; 64];
+        raw.fill_with(&mut random);
+        let place = (n % places) as u32;
+        Signature { code: b'A', index: place, ondex: ondex.then_some(place), raw, verified: true, matches: true }
+    };
+    if places == 0 { vec![] } else { (0..count).map(one).collect() }
+}
+
+fn inception(z: Size) -> Record {
+    Record::Inception(Inception {
+        prefix: item(b'E', 1),
+        sn: 0,
+        said: item(b'E', 1),
+        keys: items(b'D', 0, z.keys),
+        threshold: threshold(z),
+        next: items(b'E', 40, z.keys),
+        next_threshold: threshold(z),
+        witnesses: items(b'B', 0, z.witnesses),
+        toad: z.witnesses as u32,
+        config: vec![],
+        anchors: 0,
+        signatures: signatures(z.signatures, z.keys, false),
+        receipts: signatures(z.receipts, z.witnesses, false),
+    })
+}
+
+fn rotation(z: Size) -> Record {
+    Record::Rotation(Rotation {
+        prefix: item(b'E', 1),
+        sn: 1,
+        said: item(b'E', 2),
+        prior: item(b'E', 1),
+        keys: items(b'D', 100, z.keys),
+        threshold: threshold(z),
+        next: items(b'E', 80, z.keys),
+        next_threshold: threshold(z),
+        additions: items(b'B', 100, z.change),
+        removals: items(b'B', 0, z.change),
+        toad: z.witnesses as u32,
+        anchors: 0,
+        signatures: signatures(z.signatures, z.keys, true),
+        receipts: signatures(z.receipts, z.witnesses, false),
+    })
+}
+
+fn interaction(z: Size) -> Record {
+    Record::Interaction(Interaction {
+        prefix: item(b'E', 1),
+        sn: 1,
+        said: item(b'E', 2),
+        prior: item(b'E', 1),
+        anchors: 1,
+        signatures: signatures(z.signatures, z.keys, false),
+        receipts: signatures(z.receipts, z.witnesses, false),
+    })
+}
+
+fn signed_parts(record: &Record) -> (&[Signature], &[Signature]) {
+    match record {
+        Record::Inception(r) => (&r.signatures, &r.receipts),
+        Record::Rotation(r) => (&r.signatures, &r.receipts),
+        Record::Interaction(r) => (&r.signatures, &r.receipts),
+        _ => (&[], &[]),
+    }
+}
+
+// ---- The given Rust
+
+/// `ingest` takes its state by value. A view of the held one is made for each call, and its time is taken off again.
+fn judge<'e>(held: Option<&'e KeyStateSnapshot>, signed: &Signed<'e>) {
+    match held {
+        None => drop(black_box(KeyState::incept(black_box(signed)).expect("accepted"))),
+        Some(held) => drop(black_box(held.view().ingest(black_box(signed)).expect("accepted"))),
+    }
+}
+
+fn read(bytes: &[u8], held: Option<Option<&KeyStateSnapshot>>) {
+    let reader::Head::Whole { mark, body, .. } = reader::head(black_box(bytes)) else { panic!("a whole record") };
+    let record = reader::body(mark, body).expect("a good record");
+    let event = rust::event(&record);
+    let (s, r) = signed_parts(&record);
+    let signed = Signed::from_host_asserted_parts(&event, b"", rust::sigers(s), rust::sigers(r));
+    match held {
+        None => drop(black_box(signed)),
+        Some(held) => judge(held, &signed),
+    }
+}
+
+// ---- Timing
+
+/// Nanoseconds a call: the median of the rounds and the least.
+#[derive(Clone, Copy)]
+struct Time {
+    median: f64,
+    least: f64,
+}
+
+fn timed(rounds: usize, calls: u64, parts: &mut [Box<dyn FnMut(u64) + '_>]) -> Vec<Time> {
+    let mut times = vec![Vec::with_capacity(rounds); parts.len()];
+    for part in parts.iter_mut() {
+        part(calls);
+    }
+    for _ in 0..rounds {
+        for (part, times) in parts.iter_mut().zip(&mut times) {
+            let start = Instant::now();
+            part(calls);
+            times.push(start.elapsed().as_nanos() as f64 / calls as f64);
+        }
+    }
+    let of = |mut times: Vec<f64>| {
+        times.sort_by(f64::total_cmp);
+        Time { median: times[times.len() / 2], least: times[0] }
+    };
+    times.into_iter().map(of).collect()
+}
+
+/// Ours and the Rust's: read, judge, both; then the device's call.
+fn shape(rounds: usize, before: Option<Size>, record: &Record) -> Vec<Time> {
+    let bytes = writer::whole(record).bytes;
+    let body = &bytes[4..];
+    let mark = u16::from_be_bytes([bytes[0], bytes[1]]);
+    let held: Option<KeyStateSnapshot> = before.map(|z| {
+        let first = inception(z);
+        let (s, r) = signed_parts(&first);
+        let event = rust::event(&first);
+        let signed = Signed::from_host_asserted_parts(&event, b"", rust::sigers(s), rust::sigers(r));
+        KeyStateSnapshot::from(&KeyState::incept(&signed).expect("a good inception"))
+    });
+    let state = held.as_ref().map_or(vec![], |held| writer::whole(&Record::Snapshot(rust::snapshot_back(held))).bytes);
+    let event = rust::event(record);
+    let (s, r) = signed_parts(record);
+    let signed = Signed::from_host_asserted_parts(&event, b"", rust::sigers(s), rust::sigers(r));
+    let mut buffer = vec![0u8; 2285];
+    let calls = if bytes.len() < 1000 { 1000 } else { 100 };
+    let mut times = timed(rounds, calls, &mut [
+        // SAFETY: pointers and lengths are those of live vectors that do not overlap.
+        Box::new(|n| assert!(unsafe { timing_read(mark, body.as_ptr(), body.len(), n) } < 3)),
+        Box::new(|n| (0..n).for_each(|_| read(&bytes, None))),
+        Box::new(|n| assert_eq!(unsafe { timing_judge(state.as_ptr(), state.len(), mark, body.as_ptr(), body.len(), n) }, 0)),
+        Box::new(|n| (0..n).for_each(|_| judge(held.as_ref(), &signed))),
+        Box::new(|n| assert_eq!(unsafe { timing_both(state.as_ptr(), state.len(), bytes.as_ptr(), bytes.len(), n) }, 0)),
+        Box::new(|n| (0..n).for_each(|_| read(&bytes, Some(held.as_ref())))),
+        Box::new(|n| (0..n).for_each(|_| {
+            buffer[..state.len()].copy_from_slice(&state);
+            let (mut used, mut details) = (state.len(), [0; 4]);
+            assert_eq!(unsafe { keystate_offer(buffer.as_mut_ptr(), 2285, &mut used, bytes.as_ptr(), bytes.len(), &mut details) }, 0);
+        })),
+        Box::new(|n| (0..n).for_each(|_| drop(black_box(black_box(&held).as_ref().map(KeyStateSnapshot::view))))),
+    ]);
+    let view = times.pop().expect("the view's time");
+    for place in [3, 5] {
+        times[place].median -= view.median;
+        times[place].least -= view.least;
+    }
+    times
+}
+
+fn pair(ours: Time, rust: Time) -> String {
+    format!("{:.0} ({:.0}) | {:.0} ({:.0}) | {:.2} ({:.2})", ours.median, ours.least, rust.median, rust.least, ours.median / rust.median, ours.least / rust.least)
+}
+
+fn shapes(rounds: usize) {
+    println!("Nanoseconds a call: the median of {rounds} rounds (the least).\n");
+    println!("| Shape | read: ours | Rust | ratio | judge: ours | Rust | ratio | both: ours | Rust | ratio | device's call | to the Rust's both |");
+    println!("|---|---|---|---|---|---|---|---|---|---|---|---|");
+    for (name, size) in [("one key", ONE), ("widest", WIDEST)] {
+        for (kind, before, record) in [("IC", None, inception(size)), ("RO", Some(size), rotation(size)), ("IX", Some(size), interaction(size))] {
+            let t = shape(rounds, before, &record);
+            println!("| {name}, {kind} | {} | {} | {} | {:.0} ({:.0}) | {:.2} ({:.2}) |", pair(t[0], t[1]), pair(t[2], t[3]), pair(t[4], t[5]),
+                t[6].median, t[6].least, t[6].median / t[5].median, t[6].least / t[5].least);
+        }
+    }
+}
+
+/// Rotations that grow in one respect: judged, the least of the rounds.
+fn growth(rounds: usize) {
+    println!("\nGrowth: judging a rotation, nanoseconds, the least of {rounds} rounds.\n");
+    println!("| What grows | how many | ours | Rust |");
+    println!("|---|---|---|---|");
+    let row = |what: &str, count: usize, size: Size| {
+        let t = shape(rounds, Some(size), &rotation(size));
+        println!("| {what} | {count} | {:.0} | {:.0} |", t[2].least, t[3].least);
+    };
+    for n in [1, 6, 12, 24, 48] {
+        row("signatures (1 key)", n, Size { signatures: n, ..ONE });
+    }
+    for n in [1, 2, 4, 8, 16] {
+        row("keys, each with its signature and a weight", n, Size { keys: n, signatures: n, weighted: n > 8 , ..ONE });
+    }
+    for n in [0, 2, 4, 8, 16] {
+        row("witnesses, all replaced, each with a receipt", n, Size { witnesses: n, receipts: n, change: n, ..ONE });
+    }
+}
+
+fn main() {
+    let rounds = std::env::args().nth(1).map_or(301, |n| n.parse().expect("measure/time [ROUNDS]"));
+    shapes(rounds);
+    growth(rounds.min(101));
+}
