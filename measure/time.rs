@@ -58,7 +58,7 @@ fn signatures(count: usize, places: usize, ondex: bool) -> Vec<Signature> {
         seed ^= seed << 17;
         (seed >> 32) as u8
     };
-    let mut one = |n: usize| {
+    let one = |n: usize| {
         let mut raw = [0; 64];
         raw.fill_with(&mut random);
         let place = (n % places) as u32;
