@@ -2,14 +2,16 @@
 --     class-       the class of a code by the range it stands in
 --     same-item    equal over all 33 bytes is equal; with itself, the other way round; zero-only: only the zero item is zero
 use mathlib.Core.Path.{_≡_, refl, sym, _∙_}
-use mathlib.Core.Bool.{Bool, true, false}
+use mathlib.Core.Bool.{Bool, true, false, _&&_}
 use mathlib.Core.List.{List}
-use Prim.Native.Nat.{ℕ, _<_, _≤_}
+use Prim.Native.Nat.{ℕ, zero, suc, _+_, _<_, _≤_}
 use native.Mathlib.Omega.{arith}
 use lib.Dec.{eqb}
+use lib.ListN.{length, drop, getD, replicate}
 use borrow.Author.Tests.{eqb-true, eq-eqb, ne-eqb, le-leb, lt-leb}
-use Rattle.lists.specs.Lists.{either, sameNumbers}
+use Rattle.lists.specs.Lists.{both, either, sameNumbers}
 use Rattle.lists.proofs.Facts.{both-true, both-in, same-numbers, same-refl}
+use Rattle.lists.proofs.Walks.{same-more, same-over}
 use Rattle.item.specs.declared.Item.{Item}
 use Rattle.item.specs.declared.Class.{Class}
 use Rattle.item.specs.declared.Class.the-variants.{NonTransferableKey, TransferableKey, Digest, Bad}
@@ -63,3 +65,22 @@ same-item-swap a b = by-test (sameItem a b) (sameItem b a) refl refl
 
 pub zero-only : (x : Item) → isZero x ≡ true → x ≡ zeroItem
 zero-only x e = sym (same-item zeroItem x e)
+
+-- the search for a byte that is not zero
+zeros-at : (n i : ℕ) → _≡_ {A = ℕ} (getD (replicate n 0) i 0) 0
+zeros-at zero i = refl
+zeros-at (suc n) zero = refl
+zeros-at (suc n) (suc i) = zeros-at n i
+
+module _ (raw : List ℕ) (i : ℕ) (so : Bool) (h : length raw ≡ 32) where
+  pub zero-more : i < 32 → both so (sameNumbers (drop i (replicate 32 0)) (drop i raw))
+      ≡ both (so && eqb 0 (getD raw i 0)) (sameNumbers (drop (i + 1) (replicate 32 0)) (drop (i + 1) raw))
+  zero-more g =
+      let a : i < length {A = ℕ} (replicate 32 0) = g in
+      let b : i < length raw = omega arith in
+      rw (zeros-at 32 i) at (same-more (replicate 32 0) raw i a b so)
+
+  pub zero-over : 32 ≤ i → both so (sameNumbers (drop i (replicate 32 0)) (drop i raw)) ≡ so
+  zero-over g =
+      let a : length {A = ℕ} (replicate 32 0) ≤ i = g in
+      same-over (replicate 32 0) raw i so a (omega arith)

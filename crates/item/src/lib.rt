@@ -1,5 +1,6 @@
 // Items: a code byte and 32 bytes. The class of a code, and equality over all 33 bytes.
 ghost use mathlib.Core.Path.{_≡_};
+ghost use lib.ListN.{replicate};
 ghost use Rattle.lists.specs.Lists.{sameNumbers};
 ghost use Rattle.item.specs.Item.{itemShape, classOf, fitsOf, basicOf, transferableOf, sameItem, zeroItem, isZero};
 ghost use Rattle.item.specs.declared.Kind.the-variants.{Said};
@@ -77,17 +78,17 @@ pub fn is_transferable(code: u8) -> bool
     }
 }
 
+// Without a way out before the end: the bytes are compared many at a time.
 fn same_raw(a: [u8; 32], b: [u8; 32]) -> bool
     ensures { λ r. ⌜ r ≡ sameNumbers a b ⌝ }
 {
+    let mut same = true;
     let mut i: usize = 0;
     while i < 32 {
-        if a[i] != b[i] {
-            return false;
-        }
+        same = same & (a[i] == b[i]);
         i += 1;
     }
-    true
+    same
 }
 
 pub fn same(a: Item, b: Item) -> bool
@@ -110,11 +111,26 @@ pub fn zero() -> Item
     }
 }
 
+fn zero_raw(raw: [u8; 32]) -> bool
+    ensures { λ r. ⌜ r ≡ sameNumbers (replicate 32 0) raw ⌝ }
+{
+    let mut same = true;
+    let mut i: usize = 0;
+    while i < 32 {
+        same = same & (0 == raw[i]);
+        i += 1;
+    }
+    same
+}
+
 pub fn is_zero(x: Item) -> bool
     ensures { λ r. ⌜ r ≡ isZero x ⌝ }
 {
-    let z = zero();
-    same(z, x)
+    if x.code != 0 {
+        return false;
+    }
+    let raw = x.raw;
+    zero_raw(raw)
 }
 
 // 0, or 3 where the code is outside the class that the place asks for.

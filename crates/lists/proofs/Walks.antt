@@ -4,12 +4,13 @@
 --     same-                the same along two lists of numbers
 use mathlib.Core.Path.{_≡_, refl, sym, _∙_, ap}
 use mathlib.Core.List.{List, [], _∷_, _++_}
-use mathlib.Core.Bool.{Bool, true, false}
+use mathlib.Core.Bool.{Bool, true, false, _&&_}
 use Prim.Native.Nat.{ℕ, zero, suc, _<_, _≤_, _+_}
 use native.Mathlib.Numerals.{add-one}
 use native.Mathlib.Omega.{arith}
 use lib.ListN.{length, drop, take, getD, length-take, drop-of-length-le}
 use lib.Seq.{drop-cons, getD-take}
+use lib.Dec.{eqb}
 use borrow.Author.Tests.{eq-eqb, ne-eqb}
 use Rattle.lists.specs.Lists.{pick, both, either, any, all, filter, firstFrom, sameNumbers}
 use Rattle.lists.specs.declared.Found.{Found}
@@ -96,6 +97,17 @@ module _ (a b : List ℕ) (i : ℕ) (ha : i < length a) (hb : i < length b) wher
   unfolding sameNumbers
   same-stop e = rw (head-of 0 a i ha, head-of 0 b i hb) (rw (ne-eqb _ _ e))
 
+  -- without a way out before the end: what was the same so far, and this place
+  pub same-more : (so : Bool) → both so (sameNumbers (drop i a) (drop i b))
+      ≡ both (so && eqb (getD a i 0) (getD b i 0)) (sameNumbers (drop (i + 1) a) (drop (i + 1) b))
+  unfolding sameNumbers
+  same-more true = rw (head-of 0 a i ha, head-of 0 b i hb)
+  same-more false = refl
+
 pub same-end : (a b : List ℕ) (i : ℕ) → length a ≤ i → length b ≤ i → sameNumbers (drop i a) (drop i b) ≡ true
 unfolding sameNumbers
 same-end a b i h g = rw (drop-of-length-le a h, drop-of-length-le b g)
+
+pub same-over : (a b : List ℕ) (i : ℕ) (so : Bool) → length a ≤ i → length b ≤ i → both so (sameNumbers (drop i a) (drop i b)) ≡ so
+same-over a b i true h g = same-end a b i h g
+same-over a b i false h g = refl

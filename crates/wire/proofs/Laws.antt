@@ -5,7 +5,7 @@
 --     next-..       the sets of places with one signature more
 --     sigers-values   scanning a list and taking the signatures at its places is reading it
 use mathlib.Core.Path.{_≡_, refl, sym, ap, _∙_}
-use mathlib.Core.Bool.{Bool, true, false, not}
+use mathlib.Core.Bool.{Bool, true, false, not, _&&_}
 use mathlib.Core.List.{List}
 use Prim.Native.Nat.{ℕ, suc, _+_, _*_, _-_, _≤_, _<_}
 use native.Mathlib.Omega.{arith}
@@ -15,7 +15,7 @@ use lib.Seq.{getD-take, getD-drop}
 use borrow.Author.Tests.{le-leb, lt-leb, eq-eqb, ne-eqb, leb-true, leb-false}
 use Rattle.lists.specs.Lists.{pick, both, either, any, sameNumbers}
 use Rattle.lists.proofs.Facts.{both-true}
-use Rattle.lists.proofs.Walks.{same-next, same-stop, same-end}
+use Rattle.lists.proofs.Walks.{same-stop, same-more, same-over}
 use Rattle.format.specs.Parse.{Parse, got, bad, bind, byteAt, beFrom, numAt, rawAt}
 use Rattle.format.specs.Fields.{flagAt, ondexAt, sigerAt, sigersAt}
 use Rattle.cursor.specs.Cursor.{rawOf}
@@ -80,23 +80,23 @@ module _ (n : ℕ) (s : List ℕ) (p q i : ℕ) (hp : p + n ≤ length s) (hq : 
   run-at : (k : ℕ) → i < n → getD (take n (drop k s)) i 0 ≡ getD s (k + i) 0
   run-at k h = rw (getD-take n (drop k s) i 0 h, getD-drop)
 
-  pub run-next : i < n → getD s (p + i) 0 ≡ getD s (q + i) 0 → left n s p q i ≡ left n s p q (i + 1)
-  run-next h e =
-      let a : i < length (take n (drop p s)) = omega (arith, run-length p hp) in
-      let b : i < length (take n (drop q s)) = omega (arith, run-length q hq) in
-      same-next (take n (drop p s)) (take n (drop q s)) i a b (run-at p h ∙ e ∙ sym (run-at q h))
-
   pub run-stop : i < n → (getD s (p + i) 0 ≡ getD s (q + i) 0 → ⊥) → left n s p q i ≡ false
   run-stop h d =
       let a : i < length (take n (drop p s)) = omega (arith, run-length p hp) in
       let b : i < length (take n (drop q s)) = omega (arith, run-length q hq) in
       same-stop (take n (drop p s)) (take n (drop q s)) i a b (λ e. d (sym (run-at p h) ∙ e ∙ run-at q h))
 
-  pub run-end : n ≤ i → left n s p q i ≡ true
-  run-end h =
+  pub run-more : i < n → (so : Bool) → both so (left n s p q i) ≡ both (so && eqb (getD s (p + i) 0) (getD s (q + i) 0)) (left n s p q (i + 1))
+  run-more h so =
+      let a : i < length (take n (drop p s)) = omega (arith, run-length p hp) in
+      let b : i < length (take n (drop q s)) = omega (arith, run-length q hq) in
+      rw (← run-at p h, ← run-at q h) (same-more (take n (drop p s)) (take n (drop q s)) i a b so)
+
+  pub run-over : n ≤ i → (so : Bool) → both so (left n s p q i) ≡ so
+  run-over h so =
       let a : length (take n (drop p s)) ≤ i = omega (arith, run-length p hp) in
       let b : length (take n (drop q s)) ≤ i = omega (arith, run-length q hq) in
-      same-end (take n (drop p s)) (take n (drop q s)) i a b
+      same-over (take n (drop p s)) (take n (drop q s)) i so a b
 
 both-off : (a : Bool) → both a false ≡ false
 both-off true = refl

@@ -85,19 +85,23 @@ pub fn scan(s: &[u8], at: usize) -> Span
     Span::Of(n, first, p)
 }
 
+// Most signatures differ at once. Those that do not are compared to the end, many bytes at a time: where they first differ
+// makes no difference to the time.
 fn same_raw(s: &[u8], p: usize, q: usize) -> bool
     requires { ⌜ p + 64 ≤ length (now s) ⌝ }
     requires { ⌜ q + 64 ≤ length (now s) ⌝ }
     ensures { λ r. ⌜ r ≡ sameNumbers (take 64 (drop p (now (s .entry)))) (take 64 (drop q (now (s .entry)))) ⌝ }
 {
+    if s[p] != s[q] {
+        return false;
+    }
+    let mut same = true;
     let mut i: usize = 0;
     while i < 64 {
-        if s[p + i] != s[q + i] {
-            return false;
-        }
+        same = same & (s[p + i] == s[q + i]);
         i += 1;
     }
-    true
+    same
 }
 
 fn same_flag(x: u8, y: u8) -> bool

@@ -1,32 +1,27 @@
-use mathlib.Core.Path.{_≡_, sym, _∙_}
+use mathlib.Core.Path.{_≡_, refl, sym, _∙_}
 use Prim.Native.Nat.{_≤_, _-_}
 use native.Mathlib.Omega.{arith}
 use borrow.Author.Needs.{needs}
 use lib.ListN.{drop}
-use Rattle.lists.specs.Lists.{sameNumbers}
-use Rattle.lists.proofs.Walks.{same-next, same-stop, same-end}
+use Rattle.lists.specs.Lists.{both, sameNumbers}
+use Rattle.lists.proofs.Walks.{same-more, same-over}
 use Rattle.item.proofs.same_raw.Statement.{statement}
 use Rattle.item.proofs.same_raw.Tie as tie
 
 abbrev Inv-loop : tie.InvT-loop
-Inv-loop a b i₀ i = (i ≤ 32) × (sameNumbers a b ≡ sameNumbers (drop i a) (drop i b))
+Inv-loop a b same₀ i₀ same i = (i ≤ 32) × (sameNumbers a b ≡ both same (sameNumbers (drop i a) (drop i b)))
 
 abbrev μ-loop : tie.MeasureT-loop
-μ-loop a b i₀ i = 32 - i
+μ-loop a b same₀ i₀ same i = 32 - i
 
 loop-holds : tie.Need-loop-holds Inv-loop μ-loop
-loop-holds c = search needs
+loop-holds c = (search needs, refl)
 
-array-read-if1 : tie.Need-array-read-if1 Inv-loop μ-loop
-array-read-if1 c = search needs
+array-read-same : tie.Need-array-read-same Inv-loop μ-loop
+array-read-same c = search needs
 
-array-read-if1-2 : tie.Need-array-read-if1-2 Inv-loop μ-loop
-array-read-if1-2 c = search needs
-
-returns : tie.Need-returns Inv-loop μ-loop
-returns c =
-    let p = c .before .before in
-    sym (p .loop .inv .1 ∙ same-stop (p .before .args .t1) (p .before .args .t2) (p .loop .i) (omega arith) (omega arith) (c .if1 .taken))
+array-read-same-2 : tie.Need-array-read-same-2 Inv-loop μ-loop
+array-read-same-2 c = search needs
 
 add-i : tie.Need-add-i Inv-loop μ-loop
 add-i c = search needs
@@ -36,13 +31,13 @@ loop-less c = search needs
 
 loop-again : tie.Need-loop-again Inv-loop μ-loop
 loop-again c =
-    let p = c .before .before in
-    (search needs, p .loop .inv .1 ∙ same-next (p .before .args .t1) (p .before .args .t2) (p .loop .i) (omega arith) (omega arith) (c .if1 .left))
-
-returns-2 : tie.Need-returns-2 Inv-loop μ-loop
-returns-2 c =
     let p = c .before in
-    sym (p .loop .inv .1 ∙ same-end (p .before .args .t1) (p .before .args .t2) (p .loop .i) (omega arith) (omega arith))
+    (search needs, p .loop .inv .1 ∙ same-more (p .before .args .t1) (p .before .args .t2) (p .loop .i) (omega arith) (omega arith) (p .loop .same))
+
+returns : tie.Need-returns Inv-loop μ-loop
+returns c =
+    let p = c .before in
+    sym (p .loop .inv .1 ∙ same-over (p .before .args .t1) (p .before .args .t2) (p .loop .i) (p .loop .same) (omega arith) (omega arith))
 
 pub same-raw-spec : {M : Type 1} → statement M
 same-raw-spec =
@@ -51,10 +46,9 @@ same-raw-spec =
     Inv-loop
     μ-loop
     loop-holds
-    array-read-if1
-    array-read-if1-2
-    returns
+    array-read-same
+    array-read-same-2
     add-i
     loop-less
     loop-again
-    returns-2)
+    returns)
