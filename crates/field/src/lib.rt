@@ -166,6 +166,23 @@ pub fn copy_items(s: &[u8], n: usize, first: usize) -> Items
     fill_items(s, n, first)
 }
 
+// How many items `copy_items` would copy.
+pub fn count_items(s: &[u8], n: usize, first: usize) -> usize
+    ensures { λ r. ⌜ r ≡ itemsOf (now (s .entry)) n first .count ⌝ }
+{
+    let len = s.len();
+    if 16 < n {
+        return 0;
+    }
+    if len < first {
+        return 0;
+    }
+    if len - first < n * 33 {
+        return 0;
+    }
+    n
+}
+
 fn fill_config(s: &[u8], n: usize, first: usize) -> Config
     requires { ⌜ n ≤ 8 ⌝ }
     requires { ⌜ first + n * 1 ≤ length (now s) ⌝ }

@@ -12,9 +12,8 @@ use Rattle.lists.proofs.Facts.{clash}
 use Rattle.lists.proofs.Padding.{padded-used}
 use Rattle.answer.specs.declared.Answer.{Answer}
 use Rattle.answer.specs.Answer.{refused, accepted}
-use Rattle.verification.specs.declared.Counted.{Counted}
 use Rattle.verification.specs.declared.Siger.{Siger}
-use Rattle.verification.specs.Verification.{countedOf, signatures, packedSigers, noSiger}
+use Rattle.verification.specs.Verification.{signatures, packedSigers, noSiger}
 use Rattle.evidence.specs.declared.Evidence.{Evidence}
 use Rattle.evidence.specs.Evidence.{evidenceOf, signedOn, exposedOn, receiptedOn}
 use Rattle.items.specs.Items.{packed}
@@ -129,10 +128,6 @@ module _ (h : Holder) (n : ℕ) where
       stays h (refused n 0 0) _ _ (stops (isHeld h) (mayMove (h .state)) n 8 7 (refused 7 0 0) (refused 8 0 0) en ne) ne
 
 -- ---- signatures where they stand
-pub gathered : (keys next : ℕ) (sigs wigs : List Siger) (own seen : Counted) → own ≡ countedOf keys next sigs → seen ≡ countedOf 16 0 wigs
-    → record { verified = own .verified; exposed = own .exposed; receipted = seen .verified } ≡ evidenceOf keys next sigs wigs
-gathered keys next sigs wigs own seen p q = rw (p, q)
-
 used : (xs : List Siger) → signatures (packedSigers xs) ≡ xs
 used xs = padded-used noSiger 48 xs
 

@@ -4,8 +4,6 @@ ghost use Prim.Native.Nat.{_+_, _*_};
 ghost use Rattle.event.specs.declared.Ilk.the-variants.{Inception, Rotation, Interaction, DelegatedInception, DelegatedRotation};
 ghost use Rattle.state.specs.State.{holding};
 ghost use Rattle.ingest.specs.Judgement.{settled, onNothing, whereLive, nextAs};
-ghost use Rattle.evidence.specs.Evidence.{evidenceOf};
-ghost use Rattle.wire.specs.Wire.{sigersOf};
 ghost use Rattle.record.specs.Marks.{eventOf};
 ghost use Rattle.layout.specs.Records.{inceptionAt, rotationAt, interactionAt, snapshotAt, asEvent, asSnapshot, contentOf, delegated, truncated};
 ghost use Rattle.ingest.specs.Judgement.{turnedAway};
@@ -13,12 +11,10 @@ ghost use Rattle.receive.specs.Received.{bodyTaken, firstTaken, received
 ghost use Rattle.record.specs.Marks.{refusalOfEvent, refusalOfState};
 ghost use Rattle.receive.specs.Gate.{gateOf, judged, contentJudged};
 use answer::Answer;
-use evidence::Evidence;
 use ingest::Offered;
 use record::EventMarks;
 use record::EventScan;
 use record::StateScan;
-use record::TailMarks;
 use state::Holder;
 
 // What the first record gets, its mark (0 where there is none), and where the next one starts.
@@ -26,21 +22,6 @@ pub struct Received {
     pub offered: Offered,
     pub mark: u16,
     pub next: usize,
-}
-
-// Of up to 48 signatures and 48 receipts, counted where they stand.
-fn gather(s: &[u8], t: TailMarks, keys: usize, next: usize) -> Evidence
-    ensures { λ r. ⌜ r ≡ evidenceOf keys next (sigersOf (now (s .entry)) (t .sigs .count) (t .sigs .first)) (sigersOf (now (s .entry)) (t .receipts .count) (t .receipts .first)) ⌝ }
-{
-    let sigs = t.sigs;
-    let receipts = t.receipts;
-    let own = wire::count(s, sigs.first, sigs.count, keys, next);
-    let seen = wire::count(s, receipts.first, receipts.count, 16, 0);
-    Evidence {
-        verified: own.verified,
-        exposed: own.exposed,
-        receipted: seen.verified,
-    }
 }
 
 // "10 before the rest": 0 where the event's own checks follow.
@@ -69,7 +50,7 @@ fn incept(before: Holder, s: &[u8], m: EventMarks) -> Offered
     let b = parts::copy_body(s, body);
     let own = b.authority;
     let keys = own.keys;
-    let v = gather(s, tail, keys.count, 0);
+    let v = record::gather(s, tail, keys.count, 0);
     ingest::incept(before, h, b, tail.anchors, v)
 }
 
@@ -86,7 +67,7 @@ fn rotate(before: Holder, s: &[u8], m: EventMarks) -> Offered
     let old = before.state;
     let committed = old.commitment;
     let next = committed.next;
-    let v = gather(s, tail, keys.count, next.count);
+    let v = record::gather(s, tail, keys.count, next.count);
     ingest::rotate(before, h, b, v)
 }
 
@@ -99,7 +80,7 @@ fn interact(before: Holder, s: &[u8], m: EventMarks) -> Offered
     let old = before.state;
     let own = old.authority;
     let keys = own.keys;
-    let v = gather(s, tail, keys.count, 0);
+    let v = record::gather(s, tail, keys.count, 0);
     ingest::interact(before, h, v)
 }
 

@@ -9,8 +9,11 @@ use lib.ListN.{length}
 use Rattle.lists.specs.Lists.{pick}
 use Rattle.item.specs.declared.Item.{Item}
 use Rattle.item.specs.declared.Kind.the-variants.{Key, Said}
+use Rattle.verification.specs.declared.Siger.{Siger}
 use Rattle.verification.specs.declared.Sigers.{Sigers}
-use Rattle.verification.specs.Verification.{packedSigers}
+use Rattle.verification.specs.declared.Counted.{Counted}
+use Rattle.verification.specs.Verification.{countedOf, packedSigers}
+use Rattle.evidence.specs.Evidence.{evidenceOf}
 use Rattle.event.specs.declared.Ilk.{Ilk}
 use Rattle.event.specs.declared.Ilk.the-variants.{Inception, Rotation, Interaction}
 use Rattle.event.specs.declared.Head.{Head}
@@ -139,3 +142,8 @@ module _ (s : List ℕ) where
       })
       (stateOf s m)
   state-is m p q r = rw (p, q, r)
+
+-- ---- signatures where they stand
+pub gathered : (keys next : ℕ) (sigs wigs : List Siger) (own seen : Counted) → own ≡ countedOf keys next sigs → seen ≡ countedOf 16 0 wigs
+    → record { verified = own .verified; exposed = own .exposed; receipted = seen .verified } ≡ evidenceOf keys next sigs wigs
+gathered keys next sigs wigs own seen p q = rw (p, q)

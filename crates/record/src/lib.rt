@@ -3,11 +3,14 @@ ghost use mathlib.Core.Path.{_≡_};
 ghost use Rattle.event.specs.declared.Ilk.the-variants.{Inception, Rotation, Interaction};
 ghost use Rattle.layout.specs.Records.{inceptionAt, rotationAt, interactionAt, snapshotAt};
 ghost use Rattle.cursor.specs.Spans.{mapped};
+ghost use Rattle.evidence.specs.Evidence.{evidenceOf};
+ghost use Rattle.wire.specs.Wire.{sigersOf};
 ghost use Rattle.record.specs.Marks.{tailIs, eventIs, lastIs, stateIs, refusalOfSigers, refusalOfBody, refusalOfTail, refusalOfEvent, refusalOfState};
 ghost use Rattle.record.specs.Marks.{tailPlaces, inceptionPlaces, rotationPlaces, interactionPlaces, lastPlaces, snapshotPlaces, stateOf, eventOf};
 use authority::Witnessing;
 use cursor::Num8;
 use cursor::Num32;
+use evidence::Evidence;
 use field::Flag;
 use field::Place;
 use field::Sn;
@@ -290,5 +293,20 @@ pub fn copy_state(s: &[u8], m: StateMarks) -> KeyState
         config,
         transferable: last.transferable,
         last: establishment,
+    }
+}
+
+// Of up to 48 signatures and 48 receipts, counted where they stand.
+pub fn gather(s: &[u8], t: TailMarks, keys: usize, next: usize) -> Evidence
+    ensures { λ r. ⌜ r ≡ evidenceOf keys next (sigersOf (now (s .entry)) (t .sigs .count) (t .sigs .first)) (sigersOf (now (s .entry)) (t .receipts .count) (t .receipts .first)) ⌝ }
+{
+    let sigs = t.sigs;
+    let receipts = t.receipts;
+    let own = wire::count(s, sigs.first, sigs.count, keys, next);
+    let seen = wire::count(s, receipts.first, receipts.count, 16, 0);
+    Evidence {
+        verified: own.verified,
+        exposed: own.exposed,
+        receipted: seen.verified,
     }
 }

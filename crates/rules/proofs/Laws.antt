@@ -24,6 +24,7 @@ use Rattle.member_set.specs.Members.{witnessFaults, changeOf}
 use Rattle.event.specs.declared.Head.{Head}
 use Rattle.event.specs.declared.Body.{Body}
 use Rattle.state.specs.declared.KeyState.{KeyState}
+use Rattle.toad.specs.Toad.{witnessThreshold}
 use Rattle.rules.specs.Rules.{chains, genesisSn, identityOf, ownForm, nextForm, mayCommit, toadFits, inception, witnessStages, rewitness, changed, rotation}
 
 pub clean-witnesses : (list : ℕ) (xs : List Item) → Clean (witnessFaults list xs)
@@ -103,9 +104,9 @@ answerOf c = c .answer
 abbrev pub countOf : Change → ℕ
 countOf c = c .list .count
 
-module _ (x faults : Answer) (new : List Item) (b : Body) (receipted : ℕ → Answer) (ex : x ≡ faults) (c : Change) (ec : c ≡ changeOf new) where
+module _ (x faults : Answer) (new : List Item) (toad : ℕ) (receipted : ℕ → Answer) (ex : x ≡ faults) (c : Change) (ec : c ≡ changeOf new) where
   abbrev whole : Answer
-  whole = firstRefusal (witnessStages faults new b receipted)
+  whole = firstRefusal (witnessStages faults new toad receipted)
 
   module _ (zx : x .number ≡ 0) where
     pub no-room : (c .answer .number ≡ 0 → ⊥) → c .answer ≡ whole
@@ -121,19 +122,19 @@ module _ (x faults : Answer) (new : List Item) (b : Body) (receipted : ℕ → A
       after-room : (zs : List Answer) → firstRefusal (faults ∷ changeOf new .answer ∷ zs) ≡ firstRefusal zs
       after-room zs = past x faults _ ex zx ∙ past (c .answer) (changeOf new .answer) zs (ap answerOf ec) zc
 
-      module _ (y : Answer) (ey : y ≡ toadFits b (c .list .count)) where
-        toad-is : y ≡ toadFits b (length new)
-        toad-is = ey ∙ ap (toadFits b) counts
+      module _ (y : Answer) (ey : y ≡ witnessThreshold toad (c .list .count)) where
+        toad-is : y ≡ witnessThreshold toad (length new)
+        toad-is = ey ∙ ap (witnessThreshold toad) counts
 
         pub no-toad : (y .number ≡ 0 → ⊥) → y ≡ whole
-        no-toad ne = here y (toadFits b (length new)) _ toad-is ne ∙ sym (after-room _)
+        no-toad ne = here y (witnessThreshold toad (length new)) _ toad-is ne ∙ sym (after-room _)
 
         module _ (zy : y .number ≡ 0) (z : Answer) (ez : z ≡ receipted (c .list .count)) where
           receipts-is : z ≡ receipted (length new)
           receipts-is = ez ∙ ap receipted counts
 
-          after-toad : (zs : List Answer) → firstRefusal (faults ∷ changeOf new .answer ∷ toadFits b (length new) ∷ zs) ≡ firstRefusal zs
-          after-toad zs = after-room _ ∙ past y (toadFits b (length new)) zs toad-is zy
+          after-toad : (zs : List Answer) → firstRefusal (faults ∷ changeOf new .answer ∷ witnessThreshold toad (length new) ∷ zs) ≡ firstRefusal zs
+          after-toad zs = after-room _ ∙ past y (witnessThreshold toad (length new)) zs toad-is zy
 
           pub no-receipts : (z .number ≡ 0 → ⊥) → z ≡ whole
           no-receipts ne = here z (receipted (length new)) [] receipts-is ne ∙ sym (after-toad _)

@@ -89,9 +89,9 @@ inception h b anchors signed receipted =
 abbrev pub newWitnesses : KeyState → Body → List Item
 newWitnesses s b = updated (listed (s .witnessing .witnesses)) (listed (b .removals)) (listed (b .additions))
 
-abbrev pub witnessStages : Answer → List Item → Body → (ℕ → Answer) → List Answer
-witnessStages faults new b receipted =
-    faults ∷ changeOf new .answer ∷ toadFits b (length new) ∷ receipted (length new) ∷ []
+abbrev pub witnessStages : Answer → List Item → ℕ → (ℕ → Answer) → List Answer
+witnessStages faults new toad receipted =
+    faults ∷ changeOf new .answer ∷ witnessThreshold toad (length new) ∷ receipted (length new) ∷ []
 
 unfoldable pub rewitness : List Item → Body → (ℕ → Answer) → Answer
 rewitness current b receipted =
@@ -99,7 +99,7 @@ rewitness current b receipted =
     witnessStages
     (changeFaults current (listed (b .removals)) (listed (b .additions)))
     (updated current (listed (b .removals)) (listed (b .additions)))
-    b
+    (b .toad)
     receipted)
 
 -- a change's answer, with the new list where it passes

@@ -6,10 +6,10 @@ ghost use Rattle.number.specs.Number.{nextOf};
 ghost use Rattle.answer.specs.Answer.{refused, refuseUnless, firstRefusal};
 ghost use Rattle.item.specs.Item.{sameItem};
 ghost use Rattle.items.specs.Items.{listed, packed};
-ghost use Rattle.member_set.specs.Members.{witnessFaults, updated};
+ghost use Rattle.member_set.specs.Members.{witnessFaults, changeFaults, updated};
 ghost use Rattle.evidence.specs.Evidence.{signedOn, exposedOn, receiptedOn};
 ghost use Rattle.rules.specs.Rules.{follows, chainsOnto, genesisSn, identityOf, ownForm, nextForm, mayCommit, toadFits};
-ghost use Rattle.rules.specs.Rules.{inception, rewitness, newWitnesses, changed, rotation, mayInteract, interaction};
+ghost use Rattle.rules.specs.Rules.{inception, witnessStages, newWitnesses, changed, rotation, mayInteract, interaction};
 use answer::Answer;
 use authority::Authority;
 use authority::Commitment;
@@ -50,7 +50,7 @@ fn same_or_refuse(a: Item, b: Item, which: u8) -> Answer
     answer::refuse(which, 0, 0)
 }
 
-fn chain(prefix: Item, sn: Number, said: Item, h: Head) -> Answer
+pub fn chain(prefix: Item, sn: Number, said: Item, h: Head) -> Answer
     ensures { λ r. ⌜ r ≡ chainsOnto prefix sn said h ⌝ }
 {
     let own = h.prefix;
@@ -99,7 +99,7 @@ fn identity(h: Head, b: Body, anchors: u32) -> Answer
     inception::check_identity(prefix, keys, t, next.count, witnesses.count, anchors)
 }
 
-fn genesis_sn(sn: Number) -> Answer
+pub fn genesis_sn(sn: Number) -> Answer
     ensures { λ r. ⌜ r ≡ genesisSn sn ⌝ }
 {
     let zero = number::from_u64(0);
@@ -193,7 +193,7 @@ pub fn incept(h: Head, b: Body, anchors: u32, v: Evidence) -> Answer
     inception_witnesses(h, b, v)
 }
 
-fn unchanged(x: Answer) -> Change
+pub fn unchanged(x: Answer) -> Change
     ensures { λ r. ⌜ r ≡ record { answer = x; list = packed [] } ⌝ }
 {
     let none = items::empty();
@@ -204,11 +204,9 @@ fn unchanged(x: Answer) -> Change
 }
 
 // 18 to 22; 38; 30 or 31; 32 of the resulting list.
-fn rewitnessed(current: Items, b: Body, v: Evidence) -> Change
-    ensures { λ r. ⌜ r ≡ changed (rewitness (listed current) b (receiptedOn (b .toad) v)) (updated (listed current) (listed (b .removals)) (listed (b .additions))) ⌝ }
+pub fn rewitnessed(current: Items, cuts: Items, adds: Items, toad: u32, v: Evidence) -> Change
+    ensures { λ r. ⌜ r ≡ changed (firstRefusal (witnessStages (changeFaults (listed current) (listed cuts) (listed adds)) (updated (listed current) (listed cuts) (listed adds)) toad (receiptedOn toad v))) (updated (listed current) (listed cuts) (listed adds)) ⌝ }
 {
-    let cuts = b.removals;
-    let adds = b.additions;
     let x = member_set::check_change(current, cuts, adds);
     if x.number != 0 {
         return unchanged(x);
@@ -219,11 +217,11 @@ fn rewitnessed(current: Items, b: Body, v: Evidence) -> Change
         return unchanged(made);
     }
     let list = change.list;
-    let y = toad::check_witness_threshold(b.toad, list.count);
+    let y = toad::check_witness_threshold(toad, list.count);
     if y.number != 0 {
         return unchanged(y);
     }
-    let z = evidence::receipted(b.toad, v, list.count);
+    let z = evidence::receipted(toad, v, list.count);
     if z.number != 0 {
         return unchanged(z);
     }
@@ -273,10 +271,12 @@ pub fn rotate(s: KeyState, h: Head, b: Body, v: Evidence) -> Change
     }
     let witnessing = s.witnessing;
     let current = witnessing.witnesses;
-    rewitnessed(current, b, v)
+    let cuts = b.removals;
+    let adds = b.additions;
+    rewitnessed(current, cuts, adds, b.toad, v)
 }
 
-fn only_establishment(config: Config) -> Answer
+pub fn only_establishment(config: Config) -> Answer
     ensures { λ r. ⌜ r ≡ mayInteract config ⌝ }
 {
     if config::is_establishment_only(config) {

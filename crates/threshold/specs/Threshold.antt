@@ -57,10 +57,13 @@ shapeOf t =
 abbrev pub atMost : ℕ → ℕ → Answer
 atMost required keys = pick (leb required keys) accepted (refused 24 required keys)
 
+abbrev pub simpleForm : ℕ → ℕ → Answer
+simpleForm required keys = pick (eqb required 0) (refused 23 0 0) (atMost required keys)
+
 unfoldable pub wellFormed : Threshold → ℕ → Answer
 wellFormed t keys =
     pick (isSimple t)
-    (pick (eqb (t .simple) 0) (refused 23 0 0) (atMost (t .simple) keys))
+    (simpleForm (t .simple) keys)
     (pick (eqb (t .clauses) 0) (refused 25 0 0)
     (pick (any (eqb 0) (sizesOf t)) (refused 26 0 0) (atMost (weightsIn t) keys)))
 

@@ -5,7 +5,7 @@ ghost use lib.ListN.{take, drop};
 ghost use Rattle.lists.specs.Lists.{pick, both, any, all};
 ghost use Rattle.places.specs.Places.{bitAt};
 ghost use Rattle.weight.specs.Weight.{zeroWeight, noSum};
-ghost use Rattle.threshold.specs.Threshold.{sum, restZero, shapeOf, atMost, wellFormed, checkWellFormed, sumFrom, runs, judgedFrom, judged, isMet};
+ghost use Rattle.threshold.specs.Threshold.{sum, restZero, shapeOf, atMost, simpleForm, wellFormed, checkWellFormed, sumFrom, runs, judgedFrom, judged, isMet};
 use answer::Answer;
 use weight::Sum;
 use weight::Weight;
@@ -134,15 +134,22 @@ fn at_most(required: u64, keys: usize) -> Answer
     answer::refuse(24, required, most)
 }
 
+// 23, 24: of a simple number there is nothing else to look at.
+pub fn form_simple(required: u64, keys: usize) -> Answer
+    ensures { λ r. ⌜ r ≡ simpleForm required keys ⌝ }
+{
+    if required == 0 {
+        return answer::refuse(23, 0, 0);
+    }
+    at_most(required, keys)
+}
+
 // 23 to 26, whatever the shape.
 pub fn form(t: Threshold, keys: usize) -> Answer
     ensures { λ r. ⌜ r ≡ wellFormed t keys ⌝ }
 {
     if t.tag == 0 {
-        if t.simple == 0 {
-            return answer::refuse(23, 0, 0);
-        }
-        return at_most(t.simple, keys);
+        return form_simple(t.simple, keys);
     }
     let n = t.clauses;
     if n == 0 {

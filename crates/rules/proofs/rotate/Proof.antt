@@ -4,7 +4,7 @@ use Rattle.items.specs.Items.{listed}
 use Rattle.answer.specs.declared.Answer.{Answer}
 use Rattle.evidence.specs.Evidence.{signedOn, exposedOn, receiptedOn}
 use Rattle.answer.proofs.Laws.{here, past, last}
-use Rattle.rules.specs.Rules.{newWitnesses, changed}
+use Rattle.rules.specs.Rules.{rewitness, newWitnesses, changed}
 use Rattle.rules.proofs.Laws.{rewitnessOf, clean-rewitness, rotations, change-stops}
 use Rattle.rules.proofs.rotate.Statement.{statement}
 use Rattle.rules.proofs.rotate.Tie as tie
@@ -41,12 +41,13 @@ rewitnessed-requires : tie.Need-rewitnessed-requires
 rewitnessed-requires c κs = search needs
 
 returns-3 : tie.Need-returns-3
+unfolding rewitness
 returns-3 c =
-    let a = c .before .before .before .before .before .before .before .before .before .before .before .before .before .args in
+    let a = c .before .before .before .before .before .before .before .before .before .before .before .before .before .before .before .args in
     let signed = signedOn (a .b .authority .threshold) (a .v) in
     let exposed = exposedOn (a .s .commitment .threshold) (a .v) in
     let receipted = receiptedOn (a .b .toad) (a .v) in
-    c .rewitnessed .ensures ∙ ap (λ (w : Answer). changed w (newWitnesses (a .s) (a .b))) (last (rewitnessOf (a .s) (a .b) receipted) (rewitnessOf (a .s) (a .b) receipted) (clean-rewitness (listed (a .s .witnessing .witnesses)) (a .b) receipted) refl ∙ sym (past _ _ _ (c .before .before .before .before .before .rotation-keys .ensures) (c .before .before .before .if2 .left)) ∙ sym (past _ _ _ (c .before .before .before .before .before .before .before .before .before .chain .ensures) (c .before .before .before .before .before .before .before .if1 .left)) ∙ rotations (a .s) (a .h) (a .b) signed exposed receipted)
+    c .rewitnessed .ensures ∙ ap (λ (w : Answer). changed w (newWitnesses (a .s) (a .b))) (last (rewitnessOf (a .s) (a .b) receipted) (rewitnessOf (a .s) (a .b) receipted) (clean-rewitness (listed (a .s .witnessing .witnesses)) (a .b) receipted) refl ∙ sym (past _ _ _ (c .before .before .before .before .before .before .before .rotation-keys .ensures) (c .before .before .before .before .before .if2 .left)) ∙ sym (past _ _ _ (c .before .before .before .before .before .before .before .before .before .before .before .chain .ensures) (c .before .before .before .before .before .before .before .before .before .if1 .left)) ∙ rotations (a .s) (a .h) (a .b) signed exposed receipted)
 
 pub rotate-spec : {M : Type 1} → statement M
 rotate-spec =

@@ -1,7 +1,7 @@
-use Rattle.receive.proofs.Laws.{gathered}
+use Rattle.record.proofs.Laws.{gathered}
 use borrow.Author.Needs.{needs}
-use Rattle.receive.proofs.gather.Statement.{statement}
-use Rattle.receive.proofs.gather.Tie as tie
+use Rattle.record.proofs.gather.Statement.{statement}
+use Rattle.record.proofs.gather.Tie as tie
 
 count-requires : tie.Need-count-requires
 count-requires c κs = search needs
