@@ -156,7 +156,7 @@ module _ (s : List ℕ) (bytes : Bytes s) where
 abbrev pub Byte : List ℕ → ℕ → ℕ → ℕ → Type 0
 Byte s at b n = (b ≡ getD s at 0) × ((n ≡ at + 1) × (at + 1 ≤ length s))
 
-byte-ran : (s : List ℕ) (at : ℕ) → Ran (Byte s at) (byteAt s at)
+pub byte-ran : (s : List ℕ) (at : ℕ) → Ran (Byte s at) (byteAt s at)
 unfolding byteAt
 byte-ran s at = ran-pick (Byte s at) (ltb at (length s)) (got (getD s at 0) (at + 1)) 3 (λ e. (refl, (refl, omega (arith, ltb-true at (length s) e))))
 
@@ -281,3 +281,82 @@ config-run s at m n g =
 
 pub config-ran : (s : List ℕ) (at : ℕ) → Ran (Traits s at) (configPlaceAt s at)
 config-ran s at = ran-weaker (Spanned s 1 8 at) (Traits s at) (configPlaceAt s at) (config-run s at) (span-ran s (traitPlaceAt s) 1 (trait-lies s) 8 at)
+
+-- ---- thresholds
+-- the used part of an array that was filled from its place
+used : {A : Type 0} (f : ℕ → A) (w : ℕ) (z : A) (s : List ℕ) (n p : ℕ) → n ≤ 16 → p + n * w ≤ length s
+    → take n (padded 16 z (manyOf f w 16 s n p)) ≡ listOf f w n p
+used f w z s n p h k =
+    let xs = listOf f w n p in
+    rw (many-got f w 16 s n p h k) (take-at xs _ n (list-length f w n p))
+
+-- n size bytes behind sizes that come to `so`
+pub record Sizes (s : List ℕ) (n so p : ℕ) (t : ℕ) (q : ℕ) : Type 0 where
+  pub total : t ≡ so + threshold.sum (listOf (byteOf s) 1 n p)
+  pub light : t ≤ 16
+  pub ends : q ≡ p + n * 1
+  pub within : p + n * 1 ≤ length s
+
+sizes-ran : (s : List ℕ) (n so p : ℕ) → p ≤ length s → so ≤ 16 → Ran (Sizes s n so p) (totalAt s n so p)
+unfolding totalAt listOf threshold.sum
+sizes-ran s zero so p h k = record { total = omega arith; light = k; ends = omega arith; within = omega arith }
+sizes-ran s (suc n) so p h k =
+    ran-bind (Byte s p) (Sizes s (suc n) so p) (byteAt s p) _ (byte-ran s p)
+    (λ z q b. ran-pick (Sizes s (suc n) so p) (leb (so + z) 16) _ 4
+    (λ e. let l = leb-true (so + z) 16 e in
+    let d = b .0 in
+    let i = b .1 .0 in
+    let j = b .1 .1 in
+    ran-weaker (Sizes s n (so + z) q) (Sizes s (suc n) so p) (totalAt s n (so + z) q)
+    (λ t r g.
+    let a = rw i at (g .total) in
+    let c = g .ends in
+    let m = g .within in
+    record { total = omega arith; light = g .light; ends = omega arith; within = omega arith })
+    (sizes-ran s n (so + z) q (omega arith) l)))
+
+module _ (s : List ℕ) (bytes : Bytes s) where
+  -- the bytes of the weighted threshold whose parts stand at the marks
+  weighted-are : (n p t w : ℕ) → n ≤ 16 → Sizes s n 0 p t w → w + t * 16 ≤ length s
+      → thresholdBytes (thresholdOf s (weightedMarks n p t w))
+      ≡ (1 ∷ []) ++ ((n ∷ listOf (byteOf s) 1 n p) ++ each weightBytes (listOf (weightOf s) 16 t w))
+  unfolding counted
+  weighted-are n p t w h g k =
+      let x = thresholdOf s (weightedMarks n p t w) in
+      let zs : threshold.sizesOf x ≡ listOf (byteOf s) 1 n p = used (byteOf s) 1 0 s n p h (g .within) in
+      let ws : take t (x .weights) ≡ listOf (weightOf s) 16 t w = used (weightOf s) 16 noWeight s t w (g .light) k in
+      let l : t ≡ threshold.sum (listOf (byteOf s) 1 n p) = omega (arith, g .total) in
+      let m : t ≡ threshold.weightsIn x = rw zs l in
+      weighted-bytes x t (λ e. omega (arith, e)) m ∙ rw (zs, ws, list-length (byteOf s) 1 n p)
+
+  abbrev pub Marked : ℕ → Marks → ℕ → Type 0
+  Marked at m n = Run s at n (thresholdBytes (thresholdOf s m))
+
+  weighted-ran : (at p : ℕ) → Run s at p (1 ∷ []) → Ran (Marked at) (weightedAt s p)
+  unfolding weightedAt passAt
+  weighted-ran at p one =
+      ran-bind (Byte s p) (Marked at) (byteAt s p) _ (byte-ran s p)
+      (λ n q b. ran-pick (Marked at) (leb n 16) _ 4
+      (λ e. let i = b .1 .0 in let j = b .1 .1 in
+      ran-bind (Sizes s n 0 q) (Marked at) (totalAt s n 0 q) _ (sizes-ran s n 0 q (omega arith) (omega arith))
+      (λ t w g. ran-pick (Marked at) (leb (w + t * 16) (length s)) (got (weightedMarks n q t w) (w + t * 16)) 3
+      (λ r. let k = leb-true (w + t * 16) (length s) r in
+      let zs = listOf (byteOf s) 1 n q in
+      let ws = each weightBytes (listOf (weightOf s) 16 t w) in
+      let sizes : Run s q w zs = run-to s q (q + n * 1) w zs (g .ends) (run-bytes s n q (g .within)) in
+      let weights : Run s w (w + t * 16) ws = run-each s weightBytes (weightOf s) 16 (run-weight s bytes) t w k in
+      let clauses : Run s p w (n ∷ zs) = run-then s p q w (n ∷ []) zs (byte-run s p n q b) sizes in
+      run-same s at (w + t * 16) _ _ (weighted-are n q t w (leb-true n 16 e) g k)
+      (run-then s at p (w + t * 16) (1 ∷ []) _ one (run-then s p w (w + t * 16) (n ∷ zs) ws clauses weights))))))
+
+  as-ran : (tag at p : ℕ) → Run s at p (tag ∷ []) → Ran (Marked at) (marksAs tag s p)
+  unfolding marksAs
+  as-ran zero at p one =
+      ran-bind (Numbered s bytes 8 p) (Marked at) (numAt 8 s p) _ (number-ran s bytes 8 p)
+      (λ n q g. run-same s at q _ _ (simple-bytes (thresholdOf s (simpleMarks n)) refl) (run-then s at p q (0 ∷ []) (be 8 n) one (g .1)))
+  as-ran (suc zero) at p one = weighted-ran at p one
+  as-ran (suc (suc n)) at p one = tt
+
+  pub marks-ran : (at : ℕ) → Ran (Marked at) (marksAt s at)
+  unfolding marksAt
+  marks-ran at = ran-bind (Byte s at) (Marked at) (byteAt s at) _ (byte-ran s at) (λ tag p b. as-ran tag at p (byte-run s at tag p b))
