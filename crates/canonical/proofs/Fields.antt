@@ -6,7 +6,7 @@ use mathlib.Core.Path.{_≡_, refl, sym, ap, _∙_}
 use mathlib.Core.Bool.{Bool, true, false}
 use mathlib.Core.List.{List, [], _∷_, _++_, append-assoc}
 use Prim.Native.Nat.{ℕ, zero, suc, _+_, _*_, _-_, _/_, _%_, _≤_, _<_}
-use native.Mathlib.Nat.{suc-mul, zero-mul, le-refl}
+use native.Mathlib.Nat.{suc-mul}
 use native.Mathlib.Numerals.{add-one}
 use native.Mathlib.Omega.{arith}
 use lib.Dec.{leb, ltb, eqb}
@@ -17,14 +17,12 @@ use Rattle.lists.specs.Lists.{pick, padded}
 use Rattle.lists.proofs.Walks.{head-of}
 use Rattle.lists.proofs.Padding.{padded-used}
 use Rattle.number.specs.declared.Number.{Number}
-use Rattle.item.specs.declared.Item.{Item}
 use Rattle.item.specs.declared.Kind.{Kind}
 use Rattle.item.specs.Item.{fitsOf, zeroItem}
 use Rattle.config.specs.Config.{isTrait}
 use Rattle.threshold.specs.Threshold as threshold
 use Rattle.format.specs.Parse.{Parse, got, bad, bind, byteAt, beFrom, numAt}
 use Rattle.format.specs.Fields.{snAt, flagAt}
-use Rattle.cursor.specs.Cursor.{rawOf}
 use Rattle.cursor.specs.Spans.{runs, spanAt, listOf, manyOf}
 use Rattle.cursor.proofs.Laws.{be-more, raw-got, list-length, many-got}
 use Rattle.field.specs.Field.{placeAt, traitPlaceAt, itemsPlaceAt, configPlaceAt, byteOf, itemOf, itemsOf, configOf}
@@ -68,10 +66,10 @@ module _ (s : List ℕ) where
         is = p .is ∙ ap (λ (zs : List ℕ). xs ++ zs) (q .is) ∙ sym (append-assoc xs ys (drop c s));
       }
 
-  pub run-same : (a b : ℕ) (xs ys : List ℕ) → ys ≡ xs → Run s a b xs → Run s a b ys
+  run-same : (a b : ℕ) (xs ys : List ℕ) → ys ≡ xs → Run s a b xs → Run s a b ys
   run-same a b xs ys e p = rw e p
 
-  pub run-to : (a b c : ℕ) (xs : List ℕ) → c ≡ b → Run s a b xs → Run s a c xs
+  run-to : (a b c : ℕ) (xs : List ℕ) → c ≡ b → Run s a b xs → Run s a c xs
   run-to a b c xs e p = rw e p
 
   pub run-taken : (a b : ℕ) (xs : List ℕ) → Run s a b xs → take (b - a) (drop a s) ≡ xs
@@ -119,7 +117,7 @@ unfolding each
 each-byte [] = refl
 each-byte (x ∷ xs) = ap (λ (ys : List ℕ). x ∷ ys) (each-byte xs)
 
-pub run-bytes : (s : List ℕ) (n p : ℕ) → p + n * 1 ≤ length s → Run s p (p + n * 1) (listOf (byteOf s) 1 n p)
+run-bytes : (s : List ℕ) (n p : ℕ) → p + n * 1 ≤ length s → Run s p (p + n * 1) (listOf (byteOf s) 1 n p)
 run-bytes s n p h = rw each-byte at (run-each s (λ x. x ∷ []) (byteOf s) 1 (run-byte s) n p h)
 
 -- ---- numbers: "big-endian"
@@ -164,7 +162,7 @@ pub byte-run : (s : List ℕ) (at b n : ℕ) → Byte s at b n → Run s at n (b
 byte-run s at b n h = rw (h .0, h .1 .0) (run-byte s at (h .1 .1))
 
 -- w bytes by their place
-abbrev pub Lies : List ℕ → ℕ → ℕ → ℕ → ℕ → Type 0
+abbrev Lies : List ℕ → ℕ → ℕ → ℕ → ℕ → Type 0
 Lies s w at p n = (p ≡ at) × ((n ≡ at + w) × (at + w ≤ length s))
 
 place-lies : (k : Kind) (s : List ℕ) (at : ℕ) → Ran (Lies s 33 at) (placeAt k s at)
@@ -221,11 +219,11 @@ module _ (s : List ℕ) (bytes : Bytes s) where
 
 -- ---- lists
 -- a count, and where the values lie
-pub record Spanned (s : List ℕ) (w max at : ℕ) (m : ℕ × ℕ) (n : ℕ) : Type 0 where
-  pub count : Byte s at (m .0) (m .1)
-  pub few : m .0 ≤ max
-  pub ends : n ≡ m .1 + m .0 * w
-  pub within : m .1 + m .0 * w ≤ length s
+record Spanned (s : List ℕ) (w max at : ℕ) (m : ℕ × ℕ) (n : ℕ) : Type 0 where
+  count : Byte s at (m .0) (m .1)
+  few : m .0 ≤ max
+  ends : n ≡ m .1 + m .0 * w
+  within : m .1 + m .0 * w ≤ length s
 
 module _ (s : List ℕ) (f : ℕ → Parse ℕ) (w : ℕ) (h : (p : ℕ) → Ran (Lies s w p) (f p)) where
   abbrev Reach : ℕ → ℕ → Unit {0} → ℕ → Type 0
@@ -259,10 +257,11 @@ unfolding itemsBytes itemsOf
 items-run s at m n g =
     let xs = listOf (itemOf s) 33 (m .0) (m .1) in
     let l : length xs ≡ m .0 = list-length (itemOf s) 33 (m .0) (m .1) in
-    let u : take (length xs) (padded 16 zeroItem xs) ≡ xs = padded-used zeroItem 16 xs in
-    (g .count .1 .0,
-    rw (many-got (itemOf s) 33 16 s (m .0) (m .1) (g .few) (g .within), u, l, g .ends)
-    (run-then s at (m .1) (m .1 + m .0 * 33) (m .0 ∷ []) (each itemBytes xs) (byte-run s at (m .0) (m .1) (g .count)) (run-each s itemBytes (itemOf s) 33 (run-item s) (m .0) (m .1) (g .within))))
+    let u : take (length xs) (padded 16 zeroItem xs) ≡ xs = padded-used zeroItem 16 xs in (
+      g .count .1 .0,
+      rw (many-got (itemOf s) 33 16 s (m .0) (m .1) (g .few) (g .within), u, l, g .ends)
+          (run-then s at (m .1) (m .1 + m .0 * 33) (m .0 ∷ []) (each itemBytes xs) (byte-run s at (m .0) (m .1) (g .count)) (run-each s itemBytes (itemOf s) 33 (run-item s) (m .0) (m .1) (g .within))),
+    )
 
 pub items-ran : (k : Kind) (s : List ℕ) (at : ℕ) → Ran (Listed s at) (itemsPlaceAt k s at)
 items-ran k s at = ran-weaker (Spanned s 33 16 at) (Listed s at) (itemsPlaceAt k s at) (items-run s at) (span-ran s (placeAt k s) 33 (place-lies k s) 16 at)
@@ -291,11 +290,11 @@ used f w z s n p h k =
     rw (many-got f w 16 s n p h k) (take-at xs _ n (list-length f w n p))
 
 -- n size bytes behind sizes that come to `so`
-pub record Sizes (s : List ℕ) (n so p : ℕ) (t : ℕ) (q : ℕ) : Type 0 where
-  pub total : t ≡ so + threshold.sum (listOf (byteOf s) 1 n p)
-  pub light : t ≤ 16
-  pub ends : q ≡ p + n * 1
-  pub within : p + n * 1 ≤ length s
+record Sizes (s : List ℕ) (n so p : ℕ) (t : ℕ) (q : ℕ) : Type 0 where
+  total : t ≡ so + threshold.sum (listOf (byteOf s) 1 n p)
+  light : t ≤ 16
+  ends : q ≡ p + n * 1
+  within : p + n * 1 ≤ length s
 
 sizes-ran : (s : List ℕ) (n so p : ℕ) → p ≤ length s → so ≤ 16 → Ran (Sizes s n so p) (totalAt s n so p)
 unfolding totalAt listOf threshold.sum

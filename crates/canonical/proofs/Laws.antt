@@ -11,7 +11,7 @@ use mathlib.Core.List.{List, [], _∷_, _++_, append-nil, append-assoc}
 use Prim.Native.Nat.{ℕ, _+_, _*_, _-_, _≤_}
 use native.Mathlib.Omega.{arith}
 use lib.Dec.{leb, eqb}
-use lib.ListN.{length, take, drop}
+use lib.ListN.{length, drop}
 use lib.Seq.{drop-length}
 use borrow.Author.Tests.{leb-true, eqb-true}
 use Rattle.lists.specs.Lists.{pick, both}
@@ -31,7 +31,6 @@ use Rattle.parts.specs.declared.QuorumMarks.{QuorumMarks}
 use Rattle.parts.specs.declared.SignersMarks.{SignersMarks}
 use Rattle.parts.specs.declared.BodyMarks.{BodyMarks}
 use Rattle.parts.specs.Parts.{firstHeadPlaces, laterHeadPlaces, quorumPlaces, signersPlaces, inceptionBodyPlaces, rotationBodyPlaces}
-use Rattle.record.specs.declared.TailMarks.{TailMarks}
 use Rattle.record.specs.declared.EventMarks.{EventMarks}
 use Rattle.record.specs.declared.LastMarks.{LastMarks}
 use Rattle.record.specs.declared.StateMarks.{StateMarks}
@@ -40,7 +39,7 @@ use Rattle.snapshot.specs.Bytes.{be, wordsBytes, itemBytes, itemsBytes, configB
 use Rattle.snapshot.specs.Saved.{pointBytes, groupBytes, headBytes, tailBytes, bodyBytes}
 use Rattle.resume.specs.Resume.{Bytes}
 use Rattle.canonical.specs.Canonical.{Run, quorumBytes, signersBytes, Point, Signers, Last}
-use Rattle.canonical.proofs.Fields.{Ran, ran-bind, ran-pick, ran-got, run-then, run-to, run-taken, Byte, byte-ran, byte-run, Place, place-ran, Flag, flag-ran, Numbered, number-ran, Sequence, sn-ran, Listed, items-ran, Traits, config-ran, Marked, marks-ran}
+use Rattle.canonical.proofs.Fields.{Ran, ran-bind, ran-pick, ran-got, run-then, run-taken, Byte, byte-ran, byte-run, Place, place-ran, Flag, flag-ran, Numbered, number-ran, Sequence, sn-ran, Listed, items-ran, Traits, config-ran, Marked, marks-ran}
 
 -- ---- fields
 module _ (s : List ℕ) (at : ℕ) where
@@ -302,7 +301,7 @@ module _ (s : List ℕ) (bytes : Bytes s) where
       let a = g .size in
       let b = g .ends in
       let e : length s - 49 ≡ at + 1 = omega arith in
-      record { room = omega arith; is = rw e (g .point .is ∙ rw (b, drop-length s) (append-nil _)) }
+      record { room = omega arith; is = ap (λ (k : ℕ). drop k s) e ∙ g .point .is ∙ rw (b, drop-length s) (append-nil _) }
 
   record Snapshot (m : StateMarks) (n : ℕ) : Type 0 where
     point : Point s (m .head)
@@ -340,20 +339,20 @@ module _ (s : List ℕ) (bytes : Bytes s) where
       }))))
 
   module _ (m : StateMarks) (n : ℕ) (e : snapshotPlaces s 0 ≡ got m n) where
-    shot : Snapshot m n
-    shot = ran-got Snapshot (snapshotPlaces s 0) m n e snapshots
+    scanned : Snapshot m n
+    scanned = ran-got Snapshot (snapshotPlaces s 0) m n e snapshots
 
     pub snapshot-point : Point s (m .head)
-    snapshot-point = shot .point
+    snapshot-point = scanned .point
 
     pub snapshot-signers : Signers s 83 (m .body)
-    snapshot-signers = shot .signers
+    snapshot-signers = scanned .signers
 
     pub snapshot-last : Last s (m .last)
-    snapshot-last = shot .last
+    snapshot-last = scanned .last
 
     pub snapshot-whole : bodyBytes (stateOf s m) ≡ s
     snapshot-whole =
-        let r = shot .whole in
-        let h : n ≡ length s = shot .ends in
+        let r = scanned .whole in
+        let h : n ≡ length s = scanned .ends in
         sym (r .is ∙ rw (h, drop-length s) (append-nil _))
