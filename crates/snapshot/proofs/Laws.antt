@@ -53,7 +53,7 @@ over-first at y ys b h =
     let e : at + suc (length ys) ≡ at + 1 + length ys = omega arith in
     rw (take-set-next b at y h, drop-set-lt (at + 1 + length ys) b at y k, append-assoc, e)
 
-seam : (l d ys : List ℕ) (k : ℕ) → length l ≡ k → take k (l ++ d) ++ (ys ++ drop (k + length ys) (l ++ d)) ≡ l ++ (ys ++ drop (length ys) d)
+pub seam : (l d ys : List ℕ) (k : ℕ) → length l ≡ k → take k (l ++ d) ++ (ys ++ drop (k + length ys) (l ++ d)) ≡ l ++ (ys ++ drop (length ys) d)
 seam l d ys k e = rw (← e, take-append-seam, drop-append-add)
 
 -- one piece behind another
@@ -73,6 +73,9 @@ byte-wrote at y b h = record { behind = refl; bytes = sym (over-first at y [] b 
 
 pub same-bytes : {xs ys b b' : List ℕ} {at q : ℕ} → xs ≡ ys → Wrote xs at b q b' → Wrote ys at b q b'
 same-bytes e w = rw e at w
+
+pub same-room : {xs ys : List ℕ} (at : ℕ) (b : List ℕ) → xs ≡ ys → at + length xs ≤ length b → at + length ys ≤ length b
+same-room at b e h = rw e at h
 
 -- ---- All of `all` is to be written from `at` on over b₀; what is left of it goes from p on over b.
 pub record Left (all : List ℕ) (at : ℕ) (b₀ : List ℕ) (rest : List ℕ) (p : ℕ) (b : List ℕ) : Type 0 where

@@ -6,3 +6,4 @@ pub mod Size
 pub mod Back
 pub mod Longest
 pub mod Whole
+pub mod Assembled

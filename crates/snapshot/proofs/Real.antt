@@ -57,7 +57,7 @@ real-number n vs p = (p .1 .1 .0 .1, p .1 .1 .1 .0 .1)
 real-weight : (w : Weight) (vs : List Val) → Is weight.the-row w vs → Words (w .num) (w .den)
 real-weight w vs p = (p .1 .1 .0 .1, p .1 .1 .1 .0 .1)
 
-raw-32 : (x : Item) (vs : List Val) → Is item.the-row x vs → length (x .raw) ≡ 32
+pub raw-32 : (x : Item) (vs : List Val) → Is item.the-row x vs → length (x .raw) ≡ 32
 raw-32 x vs p = simp length-map at (p .1 .1 .1 .0 .1 .0 .1)
 
 raws-32 : (xs : List Item) (us : List Val) → shadow (each _ (item.the-field .row .own) (map (item.the-field .into) xs) us) → Each (λ x. length (x .raw) ≡ 32) xs

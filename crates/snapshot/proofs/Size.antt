@@ -54,7 +54,7 @@ words-size : (a b : ℕ) → length (wordsBytes a b) ≡ 16
 unfolding wordsBytes
 words-size a b = rw (length-append, length-be, length-be)
 
-item-size : (x : Item) → length (x .raw) ≡ 32 → length (itemBytes x) ≡ 33
+pub item-size : (x : Item) → length (x .raw) ≡ 32 → length (itemBytes x) ≡ 33
 unfolding itemBytes
 item-size x h = ap suc h
 

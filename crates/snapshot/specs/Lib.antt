@@ -1,2 +1,3 @@
 pub mod Bytes
 pub mod Saved
+pub mod Assembled

@@ -1,13 +1,16 @@
-// Saving: the KS record of a held state, written over the start of a lent buffer.
+// Saving: the KS record of a held state, or one put together from runs of bytes, written over the start of a lent buffer.
 ghost use mathlib.Core.Path.{_≡_};
 ghost use mathlib.Core.List.{[], _∷_};
 ghost use Prim.Native.Nat.{_+_, _≤_, _<_};
+ghost use mathlib.Core.Bool.{true};
 ghost use lib.ListN.{length, take};
 ghost use Rattle.snapshot.specs.Bytes.{be, wordsBytes, itemBytes, each, itemsBytes, counted, configBytes, weightBytes, thresholdBytes, flagByte, Room, Wrote, Sized};
 ghost use Rattle.snapshot.specs.Saved.{pointBytes, groupBytes, headBytes, tailBytes, bodyBytes, encoded, saved};
+ghost use Rattle.snapshot.specs.Assembled.{framed, joined, frontBytes, backBytes, fitting, assembled, pointed};
 ghost use Rattle.threshold.specs.Threshold.{shapeOf};
 ghost use Rattle.shape.specs.State.{stateShape};
 use answer::Answer;
+use authority::Witnessing;
 use config::Config;
 use item::Item;
 use items::Items;
@@ -292,4 +295,140 @@ pub fn save(h: Holder, buf: &mut [u8]) -> Answer
     }
     put_record(buf, s, size);
     answer::refuse(0, needed as u64, 0)
+}
+
+// The fields of a snapshot that are not taken over as bytes.
+pub struct Loose {
+    pub prefix: Item,
+    pub latest: u8,
+    pub witnessing: Witnessing,
+    pub config: Config,
+    pub transferable: bool,
+}
+
+fn put_front(
+    buf: &mut [u8],
+    at: usize,
+    prefix: Item,
+    point: &[u8],
+    latest: u8,
+    signers: &[u8],
+) -> usize
+    requires { ⌜ Room (frontBytes prefix (now point) latest (now signers)) at (now buf) ⌝ }
+    ensures { λ r. ⌜ Wrote (frontBytes prefix (now (point .entry)) latest (now (signers .entry))) at (now (buf .entry)) r (now (buf .exit)) ⌝ }
+{
+    let p = put_item(buf, at, prefix);
+    let q = put_bytes(buf, p, point);
+    let r = put_byte(buf, q, latest);
+    put_bytes(buf, r, signers)
+}
+
+fn put_back(
+    buf: &mut [u8],
+    at: usize,
+    w: Witnessing,
+    c: Config,
+    transferable: bool,
+    last: &[u8],
+) -> usize
+    requires { ⌜ w .witnesses .count ≤ 16 ⌝ }
+    requires { ⌜ c .count ≤ 8 ⌝ }
+    requires { ⌜ Room (backBytes w c transferable (now last)) at (now buf) ⌝ }
+    ensures { λ r. ⌜ Wrote (backBytes w c transferable (now (last .entry))) at (now (buf .entry)) r (now (buf .exit)) ⌝ }
+{
+    let witnesses = w.witnesses;
+    let toad = w.toad;
+    let flag = flag_byte(transferable);
+    let p = put_items(buf, at, witnesses);
+    let q = put_number(buf, p, 4, toad as u64);
+    let r = put_config(buf, q, c);
+    let e = put_byte(buf, r, flag);
+    put_bytes(buf, e, last)
+}
+
+fn put_joined(
+    buf: &mut [u8],
+    x: Loose,
+    size: usize,
+    point: &[u8],
+    signers: &[u8],
+    last: &[u8],
+) -> usize
+    requires { ⌜ fitting x (now point) (now signers) (now last) ≡ true ⌝ }
+    requires { ⌜ size ≡ length (joined x (now point) (now signers) (now last)) ⌝ }
+    requires { ⌜ Room (framed (joined x (now point) (now signers) (now last))) 0 (now buf) ⌝ }
+    ensures { λ r. ⌜ Wrote (framed (joined x (now (point .entry)) (now (signers .entry)) (now (last .entry)))) 0 (now (buf .entry)) r (now (buf .exit)) ⌝ }
+{
+    let prefix = x.prefix;
+    let witnessing = x.witnessing;
+    let config = x.config;
+    let p = put_bytes(buf, 0, b"KS");
+    let q = put_number(buf, p, 2, size as u64);
+    let r = put_front(buf, q, prefix, point, x.latest, signers);
+    put_back(buf, r, witnessing, config, x.transferable, last)
+}
+
+fn fits(x: Loose, point: &[u8], signers: &[u8], last: &[u8]) -> bool
+    ensures { λ r. ⌜ r ≡ fitting x (now (point .entry)) (now (signers .entry)) (now (last .entry)) ⌝ }
+{
+    let witnessing = x.witnessing;
+    let witnesses = witnessing.witnesses;
+    let config = x.config;
+    if 16 < witnesses.count {
+        return false;
+    }
+    if 8 < config.count {
+        return false;
+    }
+    if 49 < point.len() {
+        return false;
+    }
+    if 49 < last.len() {
+        return false;
+    }
+    signers.len() <= 65535
+}
+
+fn joined_size(x: Loose, point: &[u8], signers: &[u8], last: &[u8]) -> usize
+    requires { ⌜ fitting x (now point) (now signers) (now last) ≡ true ⌝ }
+    ensures { λ r. ⌜ Sized (joined x (now (point .entry)) (now (signers .entry)) (now (last .entry))) 66210 r ⌝ }
+{
+    let witnessing = x.witnessing;
+    let witnesses = witnessing.witnesses;
+    let config = x.config;
+    40 + items_size(witnesses) + config.count + point.len() + signers.len() + last.len()
+}
+
+// 4 for counts and runs that no snapshot has, 41 with the bytes needed for a buffer that is too short: then no byte is touched.
+// Otherwise 0, with the record's whole length.
+pub fn assemble(x: Loose, point: &[u8], signers: &[u8], last: &[u8], buf: &mut [u8]) -> Answer
+    ensures { λ r. ⌜ r ≡ assembled x (now (point .entry)) (now (signers .entry)) (now (last .entry)) (now (buf .entry)) .0 ⌝ }
+    ensures { λ _. ⌜ now (buf .exit) ≡ assembled x (now (point .entry)) (now (signers .entry)) (now (last .entry)) (now (buf .entry)) .1 ⌝ }
+{
+    let fit = fits(x, point, signers, last);
+    if !fit {
+        return answer::refuse(4, 0, 0);
+    }
+    let size = joined_size(x, point, signers, last);
+    let needed = 4 + size;
+    if buf.len() < needed {
+        return answer::refuse(41, needed as u64, 0);
+    }
+    put_joined(buf, x, size, point, signers, last);
+    answer::refuse(0, needed as u64, 0)
+}
+
+// "sn, latest said" and the type of an interaction, over those that stand in a record; a run of another length, or a buffer
+// that has no such bytes, is left as it is.
+pub fn step(point: &[u8], buf: &mut [u8])
+    ensures { λ _. ⌜ now (buf .exit) ≡ pointed (now (point .entry)) (now (buf .entry)) ⌝ }
+{
+    if point.len() != 49 {
+        return;
+    }
+    if buf.len() < 87 {
+        return;
+    }
+    let p = put_bytes(buf, 37, point);
+    put_byte(buf, p, 2);
 }
