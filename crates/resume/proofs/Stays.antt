@@ -33,7 +33,9 @@ use Rattle.event.specs.declared.Body.{Body}
 use Rattle.event.specs.declared.Event.{Event}
 use Rattle.state.specs.declared.KeyState.{KeyState}
 use Rattle.state.specs.declared.Holder.{Holder}
-use Rattle.state.specs.State.{mayMove, isHeld, holding}
+use Rattle.state.specs.State.{mayMove, isHeld, holding, begun}
+use Rattle.number.specs.declared.Number.{Number}
+use Rattle.number.specs.Number.{small}
 use Rattle.shape.specs.Event.{firstHead, laterHead, ownShape, nextShape, bodyShape, shapeAs, eventShape}
 use Rattle.shape.specs.State.{stateHead, stateTail, stateShape, holderShape}
 use Rattle.rules.specs.Rules.{rotation, rewitness, newWitnesses}
@@ -177,8 +179,8 @@ held-good : (h : Holder) → holderShape h ≡ 0 → isHeld h ≡ true → GoodS
 unfolding holderShape
 held-good h e held = good-state (h .state) (rw held at e)
 
-good-next : (k : Ilk) (h : Holder) (e : Event) → Took k h e → holderShape h ≡ 0 → shapeAs k e ≡ 0 → GoodState (nextAs k (h .state) e)
-good-next Inception h e t p q =
+good-begun : (sn : Number) (e : Event) → shapeAs Inception e ≡ 0 → GoodState (begun sn (e .head) (e .body))
+good-begun sn e q =
     let f = no-fault _ _ q in
     let g = no-fault _ _ (f .1) in
     let head = good-first (e .head) (f .0) in
@@ -195,6 +197,9 @@ good-next Inception h e t p q =
       config = no-fault _ _ (g .1) .0;
       established = head .1;
     }
+
+good-next : (k : Ilk) (h : Holder) (e : Event) → Took k h e → holderShape h ≡ 0 → shapeAs k e ≡ 0 → GoodState (nextAs k (h .state) e)
+good-next Inception h e t p q = good-begun (small 0) e q
 good-next Rotation h e t p q =
     let f = no-fault _ _ q in
     let head = good-later (e .head) (f .0) in
@@ -293,6 +298,21 @@ real-next DelegatedRotation h e t p r = absurd t
 pub holding-shape : (s : KeyState) → stateShape s ≡ 0 → holderShape (holding s) ≡ 0
 unfolding holderShape isHeld
 holding-shape s e = e
+
+-- the state that an event makes, where nothing but shape and room was looked at: the unchecked fold's
+holds : (s : KeyState) → isHeld (holding s) ≡ true
+unfolding isHeld
+holds s = refl
+
+pub begun-shape : (sn : Number) (e : Event) → shapeAs Inception e ≡ 0 → stateShape (begun sn (e .head) (e .body)) ≡ 0
+begun-shape sn e q = state-clear _ (good-begun sn e q)
+
+module _ (s : KeyState) (e : Event) (p : stateShape s ≡ 0) where
+  pub rotated-shape : length (newWitnesses s (e .body)) ≤ 16 → shapeAs Rotation e ≡ 0 → stateShape (nextAs Rotation s e) ≡ 0
+  rotated-shape few q = state-clear _ (good-next Rotation (holding s) e (holds s, few) (holding-shape s p) q)
+
+  pub stepped-shape : shapeAs Interaction e ≡ 0 → stateShape (nextAs Interaction s e) ≡ 0
+  stepped-shape q = state-clear _ (good-next Interaction (holding s) e (holds s) (holding-shape s p) q)
 
 module _ (h : Holder) (e : Event) where
   pub good-stays : holderShape h ≡ 0 → eventShape e ≡ 0 → holderShape (offered h e .holder) ≡ 0
