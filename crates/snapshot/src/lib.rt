@@ -362,8 +362,8 @@ fn put_joined(
     let prefix = x.prefix;
     let witnessing = x.witnessing;
     let config = x.config;
-    let p = put_bytes(buf, 0, b"KS");
-    let q = put_number(buf, p, 2, size as u64);
+    let m = put_bytes(buf, 0, b"KS");
+    let q = put_number(buf, m, 2, size as u64);
     let r = put_front(buf, q, prefix, point, x.latest, signers);
     put_back(buf, r, witnessing, config, x.transferable, last)
 }
@@ -410,12 +410,12 @@ pub fn assemble(x: Loose, point: &[u8], signers: &[u8], last: &[u8], buf: &mut [
         return answer::refuse(4, 0, 0);
     }
     let size = joined_size(x, point, signers, last);
-    let needed = 4 + size;
-    if buf.len() < needed {
-        return answer::refuse(41, needed as u64, 0);
+    let whole = 4 + size;
+    if buf.len() < whole {
+        return answer::refuse(41, whole as u64, 0);
     }
     put_joined(buf, x, size, point, signers, last);
-    answer::refuse(0, needed as u64, 0)
+    answer::refuse(0, whole as u64, 0)
 }
 
 // "sn, latest said" and the type of an interaction, over those that stand in a record; a run of another length, or a buffer

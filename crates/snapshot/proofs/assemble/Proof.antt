@@ -22,8 +22,8 @@ joined-size-requires c κs =
     let f = fit (a .x) (a .point .now) (a .signers .now) (a .last .now) _ (c .before .fits2 .ensures) (c .if1 .left) in
     f
 
-add-needed : tie.Need-add-needed
-add-needed c = search needs
+add-whole : tie.Need-add-whole
+add-whole c = search needs
 
 refuse-requires-2 : tie.Need-refuse-requires-2
 refuse-requires-2 c κs = search needs
@@ -63,7 +63,7 @@ assemble-spec =
     refuse-requires
     returns
     joined-size-requires
-    add-needed
+    add-whole
     refuse-requires-2
     returns-2
     put-joined-requires
