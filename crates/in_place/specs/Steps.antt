@@ -9,9 +9,7 @@ use Rattle.state.specs.State.{holding}
 use Rattle.ingest.specs.declared.Offered.{Offered}
 use Rattle.record.specs.declared.StateMarks.{StateMarks}
 use Rattle.record.specs.Marks.{stateOf}
-use Rattle.found.specs.declared.Held.{Held}
-use Rattle.found.specs.declared.Held.the-variants.{Of, Nothing, No}
-use Rattle.found.specs.Found.{Whole}
+use Rattle.in_place.specs.Temp.{Whole}
 use Rattle.in_place.specs.Calls.{Left}
 
 -- the state that the used bytes are the record of
@@ -31,8 +29,3 @@ left x buf used = record { answer = x; bytes = buf; used = used }
 abbrev pub took : KeyState → Offered
 took s = record { answer = accepted; holder = holding s }
 
--- what a record that is not read gets: bytes that hold no state come before it
-abbrev pub insteadOf : Held → ℕ → ℕ
-insteadOf (Of m) n = n
-insteadOf Nothing n = n
-insteadOf (No k) n = k
