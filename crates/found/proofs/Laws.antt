@@ -1,5 +1,5 @@
 -- From the frame and the scans to what bytes hold. Assumes nothing.
-use mathlib.Core.Path.{_≡_, refl, sym, _∙_, ap}
+use mathlib.Core.Path.{_≡_, sym, _∙_, ap}
 use mathlib.Core.Bool.{Bool, true, false}
 use mathlib.Core.List.{List}
 use Prim.Native.Nat.{ℕ, _+_, _-_, _<_, _≤_}
@@ -19,13 +19,12 @@ use Rattle.cursor.specs.Spans.{mapped}
 use Rattle.layout.specs.Records.{Content, snapshot, refusal, asEvent, asSnapshot, snapshotAt, contentOf, First, record-of, truncated, firstOf, markOf, bodyLength}
 use Rattle.decoded.specs.Decoded.{Shaped}
 use Rattle.decoded.proofs.Shapes.{decoded-shape}
-use Rattle.record.specs.declared.EventMarks.{EventMarks}
 use Rattle.record.specs.declared.StateMarks.{StateMarks}
 use Rattle.record.specs.declared.StateScan as S
 use Rattle.record.specs.Marks.{snapshotPlaces, stateIs, stateOf, refusalOfState}
 use Rattle.found.specs.declared.First as F
 use Rattle.found.specs.declared.Held as H
-use Rattle.found.specs.Kept.{Kept, none, one, alone, snapshotFirst, stateIn, keptIn}
+use Rattle.found.specs.Kept.{none, one, alone, snapshotFirst, stateIn, keptIn}
 use Rattle.found.specs.Found.{Got, firstIs, Within, keptIs, Whole, Framed, Room}
 
 -- ---- what a scan came to: r is what it told
@@ -158,8 +157,7 @@ module _ (s : List ℕ) (some : length s ≡ 0 → ⊥) where
             let h : alone (eqb next (length s)) (snapshot (stateOf (take (next - 4) (drop 4 s)) m)) ≡ stateIn s = state-read (got m n) (ap stateIs told) in
             let frame : (mark ≡ markOf s) × (next ≡ 4 + bodyLength s) = first-told s mark next _ e in
             let scan : Got (snapshotPlaces (take (next - 4) (drop 4 s)) 0) m = placed m n is (ap stateIs told) in
-            let four : 4 ≤ length s = rw end at (within .0) in
-            (
+            let four : 4 ≤ length s = rw end at (within .0) in (
               rw (eq-eqb next (length s) end, all) at h,
               record { four = four; marked = sym (frame .0) ∙ ks; sized = sym (frame .1) ∙ end; scanned = rw all at scan },
             )

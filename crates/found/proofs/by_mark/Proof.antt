@@ -1,4 +1,4 @@
-use mathlib.Core.Path.{_≡_, refl, sym, _∙_, ap}
+use mathlib.Core.Path.{refl}
 use Rattle.layout.specs.Records.{contentOf}
 use Rattle.found.proofs.Laws.{of-mark, unknown}
 use borrow.Author.Needs.{needs}

@@ -1,4 +1,3 @@
-use mathlib.Core.Path.{_≡_, refl, sym, _∙_, ap}
 use Rattle.found.proofs.Laws.{first-short, first-past, first-mark, within}
 use borrow.Author.Needs.{needs}
 use Rattle.found.proofs.first_record.Statement.{statement}

@@ -1,4 +1,3 @@
-use mathlib.Core.Path.{_≡_, refl, sym, _∙_, ap}
 use native.Mathlib.Omega.{arith}
 use Rattle.found.proofs.Laws.{not-zero, kept-over, kept-within, framed-within, room}
 use borrow.Author.Needs.{needs}
@@ -25,7 +24,7 @@ returns-2 c =
     let a = c .before .before .before .before .args in
     let p = c .before .before .if1 .left in
     let said = c .in-bytes .ensures in
-    (kept-within (a .buf .now) (a .used) _ p (said .0), (framed-within (a .buf .now) (a .used) _ p (said .1), room (a .used) _ _ p))
+    (kept-within (a .buf .now) (a .used) (c .in-bytes .result) p (said .0), (framed-within (a .buf .now) (a .used) (c .in-bytes .result) p (said .1), room (a .used) _ (c .in-bytes .result) p))
 
 pub in-buffer-spec : {M : Type 1} → statement M
 in-buffer-spec =

@@ -1,6 +1,6 @@
-use mathlib.Core.Path.{_≡_, refl, sym, _∙_, ap}
 use native.Mathlib.Omega.{arith}
-use Rattle.found.specs.Found.{firstIs}
+use Prim.Native.Nat.{_≤_}
+use lib.ListN.{length}
 use Rattle.found.proofs.Laws.{not-zero, first-is, first-within, state-empty, state-short, state-other, state-unread, state-over, state-whole}
 use borrow.Author.Needs.{needs}
 use Rattle.found.proofs.in_bytes.Statement.{statement}
@@ -29,25 +29,27 @@ returns-3 c =
     let told = c .before .before .mark .given .1 in
     let first = c .before .before .before .before .first-record .ensures in
     let some = c .before .before .before .before .before .if1 .left in
-    (state-other s some _ _ (first-is s _ told (first .0)) (c .if2 .taken), not-zero 2 (omega arith))
+    (state-other s some (c .before .before .mark .given .0 .0) (c .before .before .mark .given .0 .1 .0) (first-is s _ told (first .0)) (c .if2 .taken), not-zero 2 (omega arith))
 
 sub-scan-snapshot : tie.Need-sub-scan-snapshot
 sub-scan-snapshot c =
     let s = c .before .before .before .before .before .before .before .args .s .now in
     let w = first-within s _ (c .before .before .mark .given .1) (c .before .before .before .before .first-record .ensures .1) in
-    ?
+    w .0
 
 part-scan-snapshot-start : tie.Need-part-scan-snapshot-start
 part-scan-snapshot-start c =
     let s = c .before .before .before .before .before .before .before .args .s .now in
     let w = first-within s _ (c .before .before .mark .given .1) (c .before .before .before .before .first-record .ensures .1) in
-    ?
+    let lower : 4 ≤ c .before .before .mark .given .0 .1 .0 = w .0 in
+    search needs
 
 part-scan-snapshot-end : tie.Need-part-scan-snapshot-end
 part-scan-snapshot-end c =
     let s = c .before .before .before .before .before .before .before .args .s .now in
     let w = first-within s _ (c .before .before .mark .given .1) (c .before .before .before .before .first-record .ensures .1) in
-    ?
+    let upper : c .before .before .mark .given .0 .1 .0 ≤ length s = w .1 in
+    search needs
 
 scan-snapshot-requires : tie.Need-scan-snapshot-requires
 scan-snapshot-requires c κs = search needs

@@ -1,4 +1,4 @@
-use mathlib.Core.Path.{_≡_, refl, sym, _∙_, ap}
+use mathlib.Core.Path.{ap}
 use Rattle.record.specs.Marks.{stateIs, stateOf}
 use Rattle.found.proofs.Laws.{placed, snapshot-told}
 use borrow.Author.Needs.{needs}
