@@ -99,7 +99,7 @@ frame-told : (b : Bool) (m k n l : ℕ) (c d : Content) → record-of m c n ≡ 
 frame-told true m k n l c d e = (ap markIn e, ap nextIn e)
 frame-told false m k n l c d e = clash (ap isRecord e)
 
-first-told : (s : List ℕ) (m n : ℕ) (c : Content) → record-of m c n ≡ firstOf s → (m ≡ markOf s) × (n ≡ 4 + bodyLength s)
+pub first-told : (s : List ℕ) (m n : ℕ) (c : Content) → record-of m c n ≡ firstOf s → (m ≡ markOf s) × (n ≡ 4 + bodyLength s)
 unfolding firstOf
 first-told s m n c e = frame-told (both (leb 4 (length s)) (leb (4 + bodyLength s) (length s))) m (markOf s) n (4 + bodyLength s) c _ e
 
