@@ -1,0 +1,2 @@
+pub mod Kept
+pub mod Found
