@@ -1,0 +1,137 @@
+-- From what stands at marks to the judgements by value: the prefix, the counts and the evidence are put back where they came
+-- from. Assumes nothing.
+use mathlib.Core.Path.{_≡_, refl, sym, _∙_, ap, ap₂}
+use mathlib.Core.Bool.{Bool, true, false}
+use mathlib.Core.List.{List, [], _∷_, _++_}
+use Prim.Native.Nat.{ℕ, _+_, _*_}
+use lib.Dec.{leb}
+use lib.ListN.{length}
+use Rattle.lists.specs.Lists.{pick, both, any}
+use Rattle.lists.proofs.Padding.{padded-used}
+use Rattle.number.specs.declared.Number.{Number}
+use Rattle.answer.specs.declared.Answer.{Answer}
+use Rattle.answer.specs.Answer.{accepted, firstRefusal}
+use Rattle.answer.proofs.Laws.{Clean, clean-first, last, grouped, tail-same}
+use Rattle.item.specs.declared.Item.{Item}
+use Rattle.items.specs.declared.Items.{Items}
+use Rattle.items.specs.Items.{listed}
+use Rattle.items.proofs.Laws.{listed-packed}
+use Rattle.member_set.specs.Members.{repeatFrom, witnessFaults}
+use Rattle.verification.specs.declared.Siger.{Siger}
+use Rattle.verification.specs.Verification.{signatures, packedSigers, noSiger}
+use Rattle.event.specs.declared.Head.{Head}
+use Rattle.event.specs.declared.Ilk.the-variants.{Inception, Rotation, Interaction}
+use Rattle.evidence.specs.declared.Evidence.{Evidence}
+use Rattle.evidence.specs.Evidence.{evidenceOf, signedOn, receiptedOn}
+use Rattle.rules.specs.Rules.{chainsOnto, mayInteract, interaction, rewitness, rotation}
+use Rattle.rules.proofs.Laws.{clean-next, incepts}
+use Rattle.ingest.specs.Judgement.{incepted, rotates, interacts}
+use Rattle.ingest.proofs.Laws.{incept-lists, rotate-lists, interact-lists}
+use Rattle.cursor.specs.Spans.{listOf, manyOf}
+use Rattle.field.specs.Field.{itemOf, itemsOf, configOf}
+use Rattle.wire.specs.Wire.{sigersOf}
+use Rattle.parts.specs.declared.QuorumMarks.{QuorumMarks}
+use Rattle.parts.specs.Parts.{headOf, bodyOf}
+use Rattle.record.specs.declared.TailMarks.{TailMarks}
+use Rattle.record.specs.declared.EventMarks.{EventMarks}
+use Rattle.record.specs.declared.StateMarks.{StateMarks}
+use Rattle.record.specs.Marks.{stateOf, eventOf}
+use Rattle.judge.specs.Parts.{listAt, thresholdAt, evidenceAt, nextFormAt, startAt, keysAt, witnessesAt, chainsAt, openingAt, rewitnessAt, changedAt}
+
+-- ---- what is not looked at
+none-of : (s : List ℕ) (p : ℕ) → manyOf (itemOf s) 33 16 s 0 p ≡ []
+unfolding manyOf listOf
+none-of s p = by-test (both (leb 0 16) (leb (p + 0 * 33) (length s)))
+  where
+    by-test : (b : Bool) → pick {A = List Item} b [] [] ≡ []
+    by-test true = refl
+    by-test false = refl
+
+nothing-at : (s : List ℕ) (n p : ℕ) → n ≡ 0 → listed (itemsOf s n p) ≡ []
+unfolding itemsOf
+nothing-at s n p z = rw z (listed-packed (manyOf (itemOf s) 33 16 s 0 p) ∙ none-of s p)
+
+no-faults : accepted ≡ witnessFaults 1 []
+unfolding witnessFaults firstRefusal repeatFrom any
+no-faults = refl
+
+pub no-witnesses : (s : List ℕ) (n p : ℕ) → n ≡ 0 → accepted ≡ witnessFaults 1 (listed (itemsOf s n p))
+no-witnesses s n p z = rw (nothing-at s n p z) no-faults
+
+-- ---- the same checks of the same parts
+pub chain-same : (p p' : Item) (sn : Number) (d d' : Item) (h h' : Head) → p ≡ p' → d ≡ d' → h ≡ h' → chainsOnto p sn d h ≡ chainsOnto p' sn d' h'
+chain-same p p' sn d d' h h' ep ed eh = rw (ep, ed, eh)
+
+pub clean-next-at : (s : List ℕ) (q : QuorumMarks) (next : ℕ) → Clean (nextFormAt s q next)
+clean-next-at s q next = clean-next (record { next = record { count = next; at = [] }; threshold = thresholdAt s q })
+
+-- a check and two groups of checks
+pub then-groups : (x : Answer) (ys zs : List Answer) → firstRefusal (x ∷ firstRefusal ys ∷ firstRefusal zs ∷ []) ≡ firstRefusal (x ∷ (ys ++ zs))
+then-groups x ys zs =
+    tail-same (x ∷ []) (firstRefusal ys ∷ firstRefusal zs ∷ []) (ys ++ zs)
+    (grouped ys (firstRefusal zs ∷ []) ∙ tail-same ys (firstRefusal zs ∷ []) zs (sym (last (firstRefusal zs) (firstRefusal zs) (clean-first zs) refl)))
+
+-- ---- signatures where they stand
+used : (xs : List Siger) → signatures (packedSigers xs) ≡ xs
+used xs = padded-used noSiger 48 xs
+
+evidence-as : (keys next : ℕ) (sigs wigs : List Siger) → evidenceOf keys next sigs wigs ≡ evidenceOf keys next (signatures (packedSigers sigs)) (signatures (packedSigers wigs))
+evidence-as keys next sigs wigs = sym (ap₂ (λ (x y : List Siger). evidenceOf keys next x y) (used sigs) (used wigs))
+
+gathered : (s : List ℕ) (t : TailMarks) (keys next keys' next' : ℕ) (v : Evidence) → v ≡ evidenceAt s t keys next → keys ≡ keys' → next ≡ next'
+    → v ≡ evidenceOf keys' next' (signatures (packedSigers (sigersOf s (t .sigs .count) (t .sigs .first)))) (signatures (packedSigers (sigersOf s (t .receipts .count) (t .receipts .first))))
+gathered s t keys next keys' next' v e k n =
+    e
+    ∙ ap₂ (λ (x y : ℕ). evidenceAt s t x y) k n
+    ∙ evidence-as keys' next' (sigersOf s (t .sigs .count) (t .sigs .first)) (sigersOf s (t .receipts .count) (t .receipts .first))
+
+-- ---- an inception
+module _ (s : List ℕ) (m : EventMarks) (prefix : Item) (keys next witnesses : ℕ) (v : Evidence)
+    (ep : prefix ≡ itemOf s (m .head .prefix))
+    (ek : keys ≡ listAt s (m .body .signers .authority .items) .count)
+    (en : next ≡ listAt s (m .body .signers .commitment .items) .count)
+    (ew : witnesses ≡ listAt s (m .body .additions) .count)
+    (ev : v ≡ evidenceAt s (m .tail) keys 0) where
+  pub inception-at : firstRefusal (
+      firstRefusal (startAt s (m .head) (m .body) prefix next witnesses (m .tail .anchors))
+      ∷ firstRefusal (keysAt s (m .body .signers) keys next v)
+      ∷ firstRefusal (witnessesAt (prefix .code) next (m .body .toad) witnesses v)
+      ∷ []) ≡ incepted (eventOf Inception s m)
+  inception-at =
+      rw (ep, ek, en, ew)
+      (incepts (headOf s (m .head)) (bodyOf s (m .body)) (m .tail .anchors) (signedOn (thresholdAt s (m .body .signers .authority)) v) (receiptedOn (m .body .toad) v)
+      ∙ incept-lists (eventOf Inception s m) v (gathered s (m .tail) keys 0 _ 0 v ev ek refl))
+
+-- ---- an interaction
+module _ (st : List ℕ) (sm : StateMarks) (s : List ℕ) (m : EventMarks) (keys witnesses : ℕ) (v : Evidence)
+    (ek : keys ≡ listAt st (sm .body .signers .authority .items) .count)
+    (ew : witnesses ≡ listAt st (sm .body .additions) .count)
+    (ev : v ≡ evidenceAt s (m .tail) keys 0) where
+  pub interaction-at : firstRefusal (
+      mayInteract (configOf st (sm .body .config .count) (sm .body .config .first))
+      ∷ chainsAt st (sm .head) s (m .head)
+      ∷ signedOn (thresholdAt st (sm .body .signers .authority)) v
+      ∷ receiptedOn (sm .body .toad) v witnesses
+      ∷ []) ≡ interacts (stateOf st sm) (eventOf Interaction s m)
+  unfolding interaction
+  interaction-at = rw ew (interact-lists (stateOf st sm) (eventOf Interaction s m) v (gathered s (m .tail) keys 0 _ 0 v ev ek refl))
+
+-- ---- a rotation
+pub change-same : (l l' c c' a a' : Items) (toad : ℕ) (v : Evidence) → l ≡ l' → c ≡ c' → a ≡ a'
+    → changedAt (listed l) (listed c) (listed a) toad v ≡ changedAt (listed l') (listed c') (listed a') toad v
+change-same l l' c c' a a' toad v el ec ea = rw (el, ec, ea)
+
+module _ (st : List ℕ) (sm : StateMarks) (s : List ℕ) (m : EventMarks) where
+  abbrev pub rewitnessIn : Evidence → Answer
+  rewitnessIn v = rewitnessAt (listed (listAt st (sm .body .additions))) (listed (listAt s (m .body .removals))) (listed (listAt s (m .body .additions))) (m .body .toad) v
+
+  pub rotation-at : (keys next : ℕ) (v : Evidence)
+      → keys ≡ listAt s (m .body .signers .authority .items) .count
+      → next ≡ listAt st (sm .body .signers .commitment .items) .count
+      → v ≡ evidenceAt s (m .tail) keys next
+      → firstRefusal (firstRefusal (openingAt st sm s m keys v) ∷ rewitnessIn v ∷ []) ≡ rotates (stateOf st sm) (eventOf Rotation s m)
+  unfolding rotation rewitness
+  rotation-at keys next v ek en ev =
+      grouped (openingAt st sm s m keys v) (rewitnessIn v ∷ [])
+      ∙ ap (λ (n : ℕ). firstRefusal (openingAt st sm s m n v ++ (rewitnessIn v ∷ []))) ek
+      ∙ rotate-lists (stateOf st sm) (eventOf Rotation s m) v (gathered s (m .tail) keys next _ _ v ev ek en)
