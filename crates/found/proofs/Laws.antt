@@ -25,7 +25,7 @@ use Rattle.record.specs.Marks.{snapshotPlaces, stateIs, stateOf, refusalOfState
 use Rattle.found.specs.declared.First as F
 use Rattle.found.specs.declared.Held as H
 use Rattle.found.specs.Kept.{none, one, alone, snapshotFirst, stateIn, keptIn}
-use Rattle.found.specs.Found.{Got, firstIs, Within, keptIs, Whole, Framed, Room}
+use Rattle.found.specs.Found.{Got, firstIs, Small, Within, keptIs, Whole, Framed, Room}
 
 -- ---- what a scan came to: r is what it told
 module _ {A : Type 0} {q : Parse A} where
@@ -71,8 +71,8 @@ module _ (s : List ℕ) where
         let k : 4 + n - 4 ≡ n = omega arith in
         rw (le-leb 4 (length s) four, ← en, le-leb (4 + n) (length s) q, ← em, k)
 
-    pub within : n ≤ length s - 4 → (4 ≤ 4 + n) × (4 + n ≤ length s)
-    within p = (omega arith, omega arith)
+    pub within : n ≤ length s - 4 → Small s → (4 ≤ 4 + n) × ((4 + n ≤ length s) × Small s)
+    within p small = (omega arith, (omega arith, small))
 
 -- what the call told
 module _ (s : List ℕ) {x : F.First} (y : F.First) (told : x ≡ y) where
@@ -125,7 +125,7 @@ module _ (s : List ℕ) (some : length s ≡ 0 → ⊥) where
         let h : snapshotFirst (length s) (record-of mark (contentOf mark (take (next - 4) (drop 4 s))) next) ≡ stateIn s = by-first _ e in
         rw (ne-eqb mark 0x4B53 ne) at h
 
-    module _ (within : (4 ≤ next) × (next ≤ length s)) (ks : mark ≡ 0x4B53) (x : S.StateScan) (is : stateIs x ≡ snapshotPlaces (take (next - 4) (drop 4 s)) 0) (value : mapped (stateOf (take (next - 4) (drop 4 s))) (stateIs x) ≡ snapshotAt (take (next - 4) (drop 4 s)) 0) where
+    module _ (within : (4 ≤ next) × ((next ≤ length s) × Small s)) (ks : mark ≡ 0x4B53) (x : S.StateScan) (is : stateIs x ≡ snapshotPlaces (take (next - 4) (drop 4 s)) 0) (value : mapped (stateOf (take (next - 4) (drop 4 s))) (stateIs x) ≡ snapshotAt (take (next - 4) (drop 4 s)) 0) where
       state-alone : alone (eqb next (length s)) (asSnapshot (snapshotAt (take (next - 4) (drop 4 s)) 0)) ≡ stateIn s
       unfolding contentOf
       state-alone =
@@ -159,7 +159,7 @@ module _ (s : List ℕ) (some : length s ≡ 0 → ⊥) where
             let scan : Got (snapshotPlaces (take (next - 4) (drop 4 s)) 0) m = placed m n is (ap stateIs told) in
             let four : 4 ≤ length s = rw end at (within .0) in (
               rw (eq-eqb next (length s) end, all) at h,
-              record { four = four; marked = sym (frame .0) ∙ ks; sized = sym (frame .1) ∙ end; scanned = rw all at scan },
+              record { four = four; marked = sym (frame .0) ∙ ks; sized = sym (frame .1) ∙ end; small = within .1 .1; scanned = rw all at scan },
             )
 
 -- ---- a buffer and how much of it is used

@@ -1,9 +1,9 @@
 -- What bytes hold, by places: each answer of the code as layout's content, layout's first record, or the state kept; and what
 -- else its marks and places are sure of.
-use Prim.Native.Nat.{ℕ, _+_, _-_, _≤_}
+use Prim.Native.Nat.{ℕ, _+_, _-_, _≤_, _<_}
 use mathlib.Core.Path.{_≡_}
 use mathlib.Core.List.{List}
-use lib.ListN.{length, take, drop}
+use lib.ListN.{length, take, drop, getD}
 use Rattle.event.specs.declared.Ilk.the-variants.{Inception, Rotation, Interaction, DelegatedInception, DelegatedRotation}
 use Rattle.state.specs.State.{holding}
 use Rattle.format.specs.Parse.{Parse, got}
@@ -47,8 +47,12 @@ abbrev pub firstIs : List ℕ → F.First → L.First
 firstIs s (F.the-variants.Of mark next) = record-of mark (contentOf mark (take (next - 4) (drop 4 s))) next
 firstIs s F.the-variants.Short = truncated
 
+-- its numbers are bytes
+abbrev pub Small : List ℕ → Type 0
+Small s = (i : ℕ) → getD s i 0 < 256
+
 abbrev pub Within : List ℕ → F.First → Type 0
-Within s (F.the-variants.Of mark next) = (4 ≤ next) × (next ≤ length s)
+Within s (F.the-variants.Of mark next) = (4 ≤ next) × ((next ≤ length s) × Small s)
 Within s F.the-variants.Short = Unit {0}
 
 -- ---- The state in bytes
@@ -62,6 +66,7 @@ pub record Whole (s : List ℕ) (m : StateMarks) : Type 0 where
   pub four : 4 ≤ length s
   pub marked : markOf s ≡ 0x4B53
   pub sized : 4 + bodyLength s ≡ length s
+  pub small : Small s
   pub scanned : Got (snapshotPlaces (drop 4 s) 0) m
 
 abbrev pub Framed : List ℕ → H.Held → Type 0

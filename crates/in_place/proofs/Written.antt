@@ -46,9 +46,14 @@ use Rattle.snapshot.proofs.Assembled.{joined-body, framed-body, saved-placed, s
 use Rattle.snapshot.proofs.Size.{item-size}
 use Rattle.canonical.specs.Canonical.{signersBytes}
 use Rattle.canonical.proofs.Laws.{inception-point, inception-signers, rotation-point, rotation-signers, interaction-point, snapshot-point, snapshot-signers, snapshot-last, snapshot-whole, few-items, few-traits}
-use Rattle.in_place.specs.Temp.{Got, Whole}
+use Rattle.found.specs.Found.{Got, Whole, Small}
 use Rattle.in_place.specs.Calls.{Left, afterSaving, settledIn}
-use Rattle.in_place.specs.Steps.{stateAt, Keeps, left, took}
+use Rattle.in_place.specs.Steps.{Body, stateAt, Keeps, left, took}
+
+-- ---- numbers below 256, one by one and all along
+pub small-bytes : (s : List ℕ) → Small s → Bytes s
+small-bytes [] f = tt
+small-bytes (b ∷ s) f = (f 0, small-bytes s (λ i. f (suc i)))
 
 -- ---- what a scan gave
 module _ (s : List ℕ) where
@@ -116,30 +121,30 @@ module _ (buf : List ℕ) (used : ℕ) (s : KeyState) (shape : stateShape s ≡ 
   written x ex r er = er ∙ rw (ex, assembled-state, saved-placed s buf shape)
 
 -- ---- an inception: the runs are the record's own
-module _ (buf : List ℕ) (used : ℕ) (s : List ℕ) (bytes : Bytes s) (long : length s ≤ 65535) (r : Left) (x : Loose) where
+module _ (buf : List ℕ) (used : ℕ) (s : List ℕ) (body : Body s) (r : Left) (x : Loose) where
   module _ (m : EventMarks) (g : Got (inceptionPlaces s 0) m) where
     pub begun-settled : x ≡ looseOf (genesis (headOf s (m .head)) (bodyOf s (m .body)))
         → r ≡ afterSaving used accepted (assembled x (take (82 - 33) (drop 33 s)) (take (m .body .additions .first - 1 - 82) (drop 82 s)) (take (82 - 33) (drop 33 s)) buf)
         → r ≡ settledIn buf used (took (genesis (headOf s (m .head)) (bodyOf s (m .body))))
     begun-settled ex er =
-        let p = inception-point s bytes m (g .next) (g .is) in
-        let q = inception-signers s bytes m (g .next) (g .is) in
+        let p = inception-point s (small-bytes s (body .small)) m (g .next) (g .is) in
+        let q = inception-signers s (small-bytes s (body .small)) m (g .next) (g .is) in
         let n : length (take 49 (drop 33 s)) ≤ 49 = simp length-take (omega arith) in
         written buf used (genesis (headOf s (m .head)) (bodyOf s (m .body)))
         (begun-shape (m .head .sn) (eventOf Inception s m) (inception-shape s m g))
         (few-items s (m .body .additions .count) (m .body .additions .first))
         (few-traits s (m .body .config .count) (m .body .config .first))
         (take 49 (drop 33 s)) (take (m .body .additions .first - 1 - 82) (drop 82 s)) (take 49 (drop 33 s))
-        (p .is) (q .is) (p .is) n n (short-run 82 (m .body .additions .first - 1 - 82) s long) x ex r er
+        (p .is) (q .is) (p .is) n n (short-run 82 (m .body .additions .first - 1 - 82) s (body .long)) x ex r er
 
   module _ (m : StateMarks) (g : Got (snapshotPlaces s 0) m) where
     pub taken-settled : x ≡ looseOf (stateOf s m)
         → r ≡ afterSaving used accepted (assembled x (take (82 - 33) (drop 33 s)) (take (m .body .additions .first - 1 - 83) (drop 83 s)) (take (length s - (length s - 49)) (drop (length s - 49) s)) buf)
         → r ≡ settledIn buf used (took (stateOf s m))
     taken-settled ex er =
-        let p = snapshot-point s bytes m (g .next) (g .is) in
-        let q = snapshot-signers s bytes m (g .next) (g .is) in
-        let l = snapshot-last s bytes m (g .next) (g .is) in
+        let p = snapshot-point s (small-bytes s (body .small)) m (g .next) (g .is) in
+        let q = snapshot-signers s (small-bytes s (body .small)) m (g .next) (g .is) in
+        let l = snapshot-last s (small-bytes s (body .small)) m (g .next) (g .is) in
         let n : length (take 49 (drop 33 s)) ≤ 49 = simp length-take (omega arith) in
         let room = l .room in
         let k : length (drop (length s - 49) s) ≡ 49 = simp length-drop (omega arith) in
@@ -150,7 +155,7 @@ module _ (buf : List ℕ) (used : ℕ) (s : List ℕ) (bytes : Bytes s) (long : 
         (few-items s (m .body .additions .count) (m .body .additions .first))
         (few-traits s (m .body .config .count) (m .body .config .first))
         (take 49 (drop 33 s)) (take (m .body .additions .first - 1 - 83) (drop 83 s)) (drop (length s - 49) s)
-        (p .is) (q .is) (l .is) n nl (short-run 83 (m .body .additions .first - 1 - 83) s long) x ex r (rw all at er)
+        (p .is) (q .is) (l .is) n nl (short-run 83 (m .body .additions .first - 1 - 83) s (body .long)) x ex r (rw all at er)
 
 -- ---- the state that the used bytes are
 two-bytes : (c d : ℕ) → c < 256 → d < 256 → be 2 (c * 256 + d) ≡ c ∷ d ∷ []
@@ -177,7 +182,7 @@ framed-whole (w ∷ x ∷ y ∷ z ∷ s) b f m e =
 
 module _ (buf : List ℕ) (used : ℕ) (m : StateMarks) (k : Keeps buf used m) where
   inner : Bytes (drop 4 (take used buf))
-  inner = bytes-drop 4 (take used buf) (k .whole .bytes)
+  inner = bytes-drop 4 (take used buf) (small-bytes (take used buf) (k .whole .small))
 
   pub state-shape : stateShape (stateAt buf used m) ≡ 0
   state-shape = snapshot-shape (drop 4 (take used buf)) m (k .whole .scanned)
@@ -186,7 +191,7 @@ module _ (buf : List ℕ) (used : ℕ) (m : StateMarks) (k : Keeps buf used m) w
   state-bytes =
       let w = k .whole in
       let e = snapshot-whole (drop 4 (take used buf)) inner m (w .scanned .next) (w .scanned .is) in
-      sym (framed-body (stateAt buf used m)) ∙ ap framed e ∙ framed-whole (take used buf) (w .bytes) (w .four) (w .marked) (w .sized)
+      sym (framed-body (stateAt buf used m)) ∙ ap framed e ∙ framed-whole (take used buf) (small-bytes (take used buf) (w .small)) (w .four) (w .marked) (w .sized)
 
   used-long : length (take used buf) ≡ used
   used-long = let h = k .within in simp length-take (omega arith)
@@ -203,7 +208,7 @@ module _ (buf : List ℕ) (used : ℕ) (m : StateMarks) (k : Keeps buf used m) w
       omega arith
 
   -- ---- an interaction: only its point is written
-  module _ (s : List ℕ) (bs : Bytes s) (e : EventMarks) (g : Got (interactionPlaces s 0) e) where
+  module _ (s : List ℕ) (body : Body s) (e : EventMarks) (g : Got (interactionPlaces s 0) e) where
     abbrev S : KeyState
     S = stateAt buf used m
 
@@ -224,13 +229,13 @@ module _ (buf : List ℕ) (used : ℕ) (m : StateMarks) (k : Keeps buf used m) w
 
     new-point : length (pointBytes (H .sn) (H .said)) ≡ 49
     new-point =
-        let p = interaction-point s bs e (g .next) (g .is) in
+        let p = interaction-point s (small-bytes s (body .small)) e (g .next) (g .is) in
         rw (p .is) at (run-49 33 s (p .room))
 
     stepped-over : pointed (take (82 - 33) (drop 33 s)) buf ≡ over 0 (encoded (stepped S H)) buf
     unfolding pointed
     stepped-over =
-        let p = interaction-point s bs e (g .next) (g .is) in
+        let p = interaction-point s (small-bytes s (body .small)) e (g .next) (g .is) in
         let fit : length (encoded S) ≤ length buf = rw (state-bytes, used-long) (k .within) in
         rw (eq-eqb _ _ (run-49 33 s (p .room)), le-leb 87 (length buf) room-87, p .is)
         (ap (over 37 (pointBytes (H .sn) (H .said) ++ (2 ∷ []))) (sym state-over)
@@ -245,7 +250,7 @@ module _ (buf : List ℕ) (used : ℕ) (m : StateMarks) (k : Keeps buf used m) w
         rw (saved-placed (stepped S H) buf (stepped-shape S (eventOf Interaction s e) state-shape (interaction-shape s e g)), stepped-used, le-leb used (length buf) (k .within), stepped-over)
 
   -- ---- a rotation: its runs, with the new list
-  module _ (s : List ℕ) (bs : Bytes s) (long : length s ≤ 65535) (e : EventMarks) (g : Got (rotationPlaces s 0) e) (list : Items)
+  module _ (s : List ℕ) (body : Body s) (e : EventMarks) (g : Got (rotationPlaces s 0) e) (list : Items)
       (el : list ≡ packed (newWitnesses (stateAt buf used m) (bodyOf s (e .body))))
       (few : list .count ≤ 16)
       (r : Left)
@@ -255,8 +260,8 @@ module _ (buf : List ℕ) (used : ℕ) (m : StateMarks) (k : Keeps buf used m) w
         → r ≡ afterSaving used accepted (assembled x (take (82 - 33) (drop 33 s)) (take (e .body .additions .first - 1 - 115) (drop 115 s)) (take (82 - 33) (drop 33 s)) buf)
         → r ≡ settledIn buf used (took (rotated (stateAt buf used m) (headOf s (e .head)) (bodyOf s (e .body)) list))
     rolled-settled ex er =
-        let p = rotation-point s bs e (g .next) (g .is) in
-        let q = rotation-signers s bs e (g .next) (g .is) in
+        let p = rotation-point s (small-bytes s (body .small)) e (g .next) (g .is) in
+        let q = rotation-signers s (small-bytes s (body .small)) e (g .next) (g .is) in
         let n : length (take 49 (drop 33 s)) ≤ 49 = simp length-take (omega arith) in
         let few-new : length (newWitnesses (stateAt buf used m) (bodyOf s (e .body))) ≤ 16 = rw el at few in
         let shape : stateShape (rotated (stateAt buf used m) (headOf s (e .head)) (bodyOf s (e .body)) list) ≡ 0 =
@@ -264,4 +269,4 @@ module _ (buf : List ℕ) (used : ℕ) (m : StateMarks) (k : Keeps buf used m) w
         written buf used (rotated (stateAt buf used m) (headOf s (e .head)) (bodyOf s (e .body)) list) shape few
         (few-traits (drop 4 (take used buf)) (m .body .config .count) (m .body .config .first))
         (take 49 (drop 33 s)) (take (e .body .additions .first - 1 - 115) (drop 115 s)) (take 49 (drop 33 s))
-        (p .is) (q .is) (p .is) n n (short-run 115 (e .body .additions .first - 1 - 115) s long) x ex r er
+        (p .is) (q .is) (p .is) n n (short-run 115 (e .body .additions .first - 1 - 115) s (body .long)) x ex r er

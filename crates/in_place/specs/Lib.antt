@@ -1,3 +1,2 @@
-pub mod Temp
 pub mod Calls
 pub mod Steps

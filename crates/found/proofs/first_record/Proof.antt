@@ -1,3 +1,4 @@
+use native.Mathlib.Omega.{arith}
 use Rattle.found.proofs.Laws.{first-short, first-past, first-mark, within}
 use borrow.Author.Needs.{needs}
 use Rattle.found.proofs.first_record.Statement.{statement}
@@ -39,7 +40,7 @@ returns-3 c =
     let four = c .before .before .before .before .before .before .before .if1 .left in
     let fits = c .before .before .before .if2 .left in
     let sized = c .before .before .before .before .pair .ensures in
-    (first-mark s four _ sized fits _ (c .pair2 .ensures), within s four _ sized fits)
+    (first-mark s four _ sized fits _ (c .pair2 .ensures), within s four _ sized fits (λ i. omega (arith, c .before .shared-slice-known5 .given i)))
 
 pub first-record-spec : {M : Type 1} → statement M
 first-record-spec =

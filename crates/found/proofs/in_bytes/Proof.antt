@@ -48,7 +48,7 @@ part-scan-snapshot-end : tie.Need-part-scan-snapshot-end
 part-scan-snapshot-end c =
     let s = c .before .before .before .before .before .before .before .args .s .now in
     let w = first-within s _ (c .before .before .mark .given .1) (c .before .before .before .before .first-record .ensures .1) in
-    let upper : c .before .before .mark .given .0 .1 .0 ≤ length s = w .1 in
+    let upper : c .before .before .mark .given .0 .1 .0 ≤ length s = w .1 .0 in
     search needs
 
 scan-snapshot-requires : tie.Need-scan-snapshot-requires
