@@ -3,10 +3,13 @@
 use mathlib.Core.Path.{_≡_, refl, sym, _∙_, ap, ap₂}
 use mathlib.Core.Bool.{Bool, true, false}
 use mathlib.Core.List.{List, [], _∷_, _++_}
-use Prim.Native.Nat.{ℕ, _+_, _*_}
-use lib.Dec.{leb}
+use Prim.Native.Nat.{ℕ, _+_, _*_, _≤_}
+use native.Mathlib.Omega.{arith}
+use lib.Dec.{eqb, leb}
 use lib.ListN.{length}
-use Rattle.lists.specs.Lists.{pick, both, any}
+use borrow.Author.Tests.{le-leb, leb-true, eqb-true}
+use Rattle.lists.specs.Lists.{pick, both, any, filter}
+use Rattle.lists.proofs.Facts.{both-true}
 use Rattle.lists.proofs.Padding.{padded-used}
 use Rattle.number.specs.declared.Number.{Number}
 use Rattle.answer.specs.declared.Answer.{Answer}
@@ -14,9 +17,11 @@ use Rattle.answer.specs.Answer.{accepted, firstRefusal}
 use Rattle.answer.proofs.Laws.{Clean, clean-first, last, grouped, tail-same}
 use Rattle.item.specs.declared.Item.{Item}
 use Rattle.items.specs.declared.Items.{Items}
-use Rattle.items.specs.Items.{listed}
+use Rattle.items.specs.Items.{listed, packed}
 use Rattle.items.proofs.Laws.{listed-packed}
-use Rattle.member_set.specs.Members.{repeatFrom, witnessFaults}
+use Rattle.toad.specs.Toad.{witnessThreshold}
+use Rattle.member_set.specs.declared.Change.{Change}
+use Rattle.member_set.specs.Members.{repeatFrom, absent, witnessFaults, changeFaults, joined, updated, changeOf}
 use Rattle.verification.specs.declared.Siger.{Siger}
 use Rattle.verification.specs.Verification.{signatures, packedSigers, noSiger}
 use Rattle.event.specs.declared.Head.{Head}
@@ -24,12 +29,14 @@ use Rattle.event.specs.declared.Ilk.the-variants.{Inception, Rotation, Interact
 use Rattle.evidence.specs.declared.Evidence.{Evidence}
 use Rattle.evidence.specs.Evidence.{evidenceOf, signedOn, receiptedOn}
 use Rattle.rules.specs.Rules.{chainsOnto, mayInteract, interaction, rewitness, rotation}
-use Rattle.rules.proofs.Laws.{clean-next, incepts}
+use Rattle.rules.proofs.Laws.{clean-next, clean-receipts, incepts, change-stops, no-toad, no-receipts, rewitnesses}
 use Rattle.ingest.specs.Judgement.{incepted, rotates, interacts}
 use Rattle.ingest.proofs.Laws.{incept-lists, rotate-lists, interact-lists}
 use Rattle.cursor.specs.Spans.{listOf, manyOf}
+use Rattle.cursor.proofs.Laws.{list-length}
 use Rattle.field.specs.Field.{itemOf, itemsOf, configOf}
 use Rattle.wire.specs.Wire.{sigersOf}
+use Rattle.parts.specs.declared.Listing.{Listing}
 use Rattle.parts.specs.declared.QuorumMarks.{QuorumMarks}
 use Rattle.parts.specs.Parts.{headOf, bodyOf}
 use Rattle.record.specs.declared.TailMarks.{TailMarks}
@@ -120,6 +127,83 @@ module _ (st : List ℕ) (sm : StateMarks) (s : List ℕ) (m : EventMarks) (keys
 pub change-same : (l l' c c' a a' : Items) (toad : ℕ) (v : Evidence) → l ≡ l' → c ≡ c' → a ≡ a'
     → changedAt (listed l) (listed c) (listed a) toad v ≡ changedAt (listed l') (listed c') (listed a') toad v
 change-same l l' c c' a a' toad v el ec ea = rw (el, ec, ea)
+
+-- no cuts and no additions leave the list as it is, without a fault
+all-kept : (xs : List Item) → filter (absent []) xs ≡ xs
+unfolding filter any
+all-kept [] = refl
+all-kept (x ∷ xs) = ap (λ (ys : List Item). x ∷ ys) (all-kept xs)
+
+updated-same : (xs : List Item) → updated xs [] [] ≡ xs
+unfolding updated joined
+updated-same xs = all-kept xs
+
+no-change-faults : (xs : List Item) → accepted ≡ changeFaults xs [] []
+unfolding changeFaults firstRefusal repeatFrom any
+no-change-faults xs = refl
+
+few-at : (s : List ℕ) (n p : ℕ) → length (manyOf (itemOf s) 33 16 s n p) ≤ 16
+unfolding manyOf
+few-at s n p = by-tests (leb n 16) refl (leb (p + n * 33) (length s))
+  where
+    by-tests : (b : Bool) → leb n 16 ≡ b → (c : Bool) → length (pick (both b c) (listOf (itemOf s) 33 n p) []) ≤ 16
+    by-tests true e true = rw (list-length (itemOf s) 33 n p) (leb-true n 16 e)
+    by-tests true e false = omega arith
+    by-tests false e c = omega arith
+
+-- a list at a place is the struct of what it lists, at most 16
+module _ (s : List ℕ) (n p : ℕ) where
+  pub packed-at : itemsOf s n p ≡ packed (listed (itemsOf s n p))
+  unfolding itemsOf
+  packed-at = ap packed (sym (listed-packed (manyOf (itemOf s) 33 16 s n p)))
+
+  pub listed-few : length (listed (itemsOf s n p)) ≤ 16
+  unfolding itemsOf
+  listed-few = rw (listed-packed (manyOf (itemOf s) 33 16 s n p)) (few-at s n p)
+
+  pub listed-count : itemsOf s n p .count ≡ length (listed (itemsOf s n p))
+  listed-count = ap (λ (l : Items). l .count) packed-at
+
+module _ (xs : List Item) (few : length xs ≤ 16) (toad : ℕ) (v : Evidence) where
+  abbrev unchangedList : Change
+  unchangedList = record { answer = accepted; list = packed xs }
+
+  has-room : unchangedList ≡ changeOf (updated xs [] [])
+  unfolding changeOf
+  has-room = rw (updated-same xs, le-leb (length xs) 16 few)
+
+  module _ (n : ℕ) (en : n ≡ length xs) (x : Answer) (ex : x ≡ witnessThreshold toad n) where
+    fits : x ≡ witnessThreshold toad (length xs)
+    fits = ex ∙ ap (witnessThreshold toad) en
+
+    pub same-toad : (x .number ≡ 0 → ⊥) → record { answer = x; list = packed [] } ≡ changedAt xs [] [] toad v
+    same-toad ne =
+        change-stops x _ (updated xs [] [])
+        (no-toad accepted (changeFaults xs [] []) (updated xs [] []) toad (receiptedOn toad v) (no-change-faults xs) unchangedList has-room refl refl x fits ne)
+        ne
+
+    module _ (zx : x .number ≡ 0) (y : Answer) (ey : y ≡ receiptedOn toad v n) where
+      seen : y ≡ receiptedOn toad v (length xs)
+      seen = ey ∙ ap (receiptedOn toad v) en
+
+      pub same-receipts : (y .number ≡ 0 → ⊥) → record { answer = y; list = packed [] } ≡ changedAt xs [] [] toad v
+      same-receipts ne =
+          change-stops y _ (updated xs [] [])
+          (no-receipts accepted (changeFaults xs [] []) (updated xs [] []) toad (receiptedOn toad v) (no-change-faults xs) unchangedList has-room refl refl x fits zx y seen ne)
+          ne
+
+      pub same-goes : y .number ≡ 0 → record { answer = y; list = packed xs } ≡ changedAt xs [] [] toad v
+      same-goes zy =
+          rewitnesses accepted (changeFaults xs [] []) (updated xs [] []) toad (receiptedOn toad v) (no-change-faults xs) unchangedList has-room refl refl x fits zx y seen zy
+          (clean-receipts toad _)
+
+pub no-change : (xs : List Item) (s : List ℕ) (cut added : Listing) (toad : ℕ) (v : Evidence) → both (eqb (cut .count) 0) (eqb (added .count) 0) ≡ true
+    → changedAt xs [] [] toad v ≡ changedAt xs (listed (listAt s cut)) (listed (listAt s added)) toad v
+no-change xs s cut added toad v e =
+    let none = both-true (eqb (cut .count) 0) (eqb (added .count) 0) e in
+    ap₂ (λ (ys zs : List Item). changedAt xs ys zs toad v)
+    (sym (nothing-at s (cut .count) (cut .first) (eqb-true (cut .count) 0 (none .0))))
+    (sym (nothing-at s (added .count) (added .first) (eqb-true (added .count) 0 (none .1))))
 
 module _ (st : List ℕ) (sm : StateMarks) (s : List ℕ) (m : EventMarks) where
   abbrev pub rewitnessIn : Evidence → Answer

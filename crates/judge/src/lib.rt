@@ -1,5 +1,8 @@
 // Events judged where they stand: a record's bytes against a snapshot's, by their marks. No state and no event is made.
 ghost use mathlib.Core.Path.{_≡_};
+ghost use mathlib.Core.List.{[]};
+ghost use lib.Dec.{eqb};
+ghost use Rattle.lists.specs.Lists.{both};
 ghost use Rattle.answer.specs.Answer.{firstRefusal};
 ghost use Rattle.event.specs.declared.Ilk.the-variants.{Inception, Rotation, Interaction};
 ghost use Rattle.items.specs.Items.{listed};
@@ -225,12 +228,41 @@ fn rotation_keys(
     rotation_signed(st, known.commitment, s, signers.authority, v)
 }
 
+// No change has no fault and always has room: 30 or 31; 32 of the list as it stands.
+fn same_witnesses(st: &[u8], old: Listing, toad: u32, v: Evidence) -> Change
+    ensures { λ r. ⌜ r ≡ changedAt (listed (listAt (now (st .entry)) old)) [] [] toad v ⌝ }
+{
+    let n = count(st, old);
+    let x = toad::check_witness_threshold(toad, n);
+    if x.number != 0 {
+        return rules::unchanged(x);
+    }
+    let y = evidence::receipted(toad, v, n);
+    if y.number != 0 {
+        return rules::unchanged(y);
+    }
+    let list = field::copy_items(st, old.count, old.first);
+    Change { answer: y, list }
+}
+
+fn no_change(cut: Listing, added: Listing) -> bool
+    ensures { λ r. ⌜ r ≡ both (eqb (cut .count) 0) (eqb (added .count) 0) ⌝ }
+{
+    if cut.count != 0 {
+        return false;
+    }
+    added.count == 0
+}
+
 // 18 to 22; 38; 30 or 31; 32 of the resulting list.
 fn rewitness(st: &[u8], old: Listing, s: &[u8], b: BodyMarks, v: Evidence) -> Change
     ensures { λ r. ⌜ r ≡ changedAt (listed (listAt (now (st .entry)) old)) (listed (listAt (now (s .entry)) (b .removals))) (listed (listAt (now (s .entry)) (b .additions))) (b .toad) v ⌝ }
 {
     let cut = b.removals;
     let added = b.additions;
+    if no_change(cut, added) {
+        return same_witnesses(st, old, b.toad, v);
+    }
     let current = field::copy_items(st, old.count, old.first);
     let cuts = field::copy_items(s, cut.count, cut.first);
     let adds = field::copy_items(s, added.count, added.first);
