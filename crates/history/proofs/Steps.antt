@@ -46,7 +46,7 @@ at-zero h p = by-test (sameNumber (h .sn) (small 0)) refl p
     by-test true e q = same-number (h .sn) (small 0) e
     by-test false e q = clash (sym q)
 
-seed-is-genesis : (e : Event) → passes (incepted e) ≡ true → seeded (e .head) (e .body) ≡ genesis (e .head) (e .body)
+pub seed-is-genesis : (e : Event) → passes (incepted e) ≡ true → seeded (e .head) (e .body) ≡ genesis (e .head) (e .body)
 unfolding inception
 seed-is-genesis e p = ap (λ (n : Number). begun n (e .head) (e .body)) (sym (at-zero (e .head) (first-passes _ _ p .0)))
 

@@ -58,7 +58,7 @@ few-members xs p = by-test (leb (length xs) 16) refl p
     by-test true e q = leb-true (length xs) 16 e
     by-test false e q = clash (sym q)
 
-few-witnesses : (s : KeyState) (e : Event) → passes (rotates s e) ≡ true → length (newWitnesses s (e .body)) ≤ 16
+pub few-witnesses : (s : KeyState) (e : Event) → passes (rotates s e) ≡ true → length (newWitnesses s (e .body)) ≤ 16
 few-witnesses s e p = few-members (newWitnesses s (e .body)) (list-fits s e p)
 
 abbrev Took : Ilk → Holder → Event → Type 0
