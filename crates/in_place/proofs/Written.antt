@@ -208,7 +208,7 @@ module _ (buf : List ℕ) (used : ℕ) (m : StateMarks) (k : Keeps buf used m) w
       omega arith
 
   -- ---- an interaction: only its point is written
-  module _ (s : List ℕ) (body : Body s) (e : EventMarks) (g : Got (interactionPlaces s 0) e) where
+  module _ (s : List ℕ) (small : Small s) (e : EventMarks) (g : Got (interactionPlaces s 0) e) where
     abbrev S : KeyState
     S = stateAt buf used m
 
@@ -229,13 +229,13 @@ module _ (buf : List ℕ) (used : ℕ) (m : StateMarks) (k : Keeps buf used m) w
 
     new-point : length (pointBytes (H .sn) (H .said)) ≡ 49
     new-point =
-        let p = interaction-point s (small-bytes s (body .small)) e (g .next) (g .is) in
+        let p = interaction-point s (small-bytes s small) e (g .next) (g .is) in
         rw (p .is) at (run-49 33 s (p .room))
 
     stepped-over : pointed (take (82 - 33) (drop 33 s)) buf ≡ over 0 (encoded (stepped S H)) buf
     unfolding pointed
     stepped-over =
-        let p = interaction-point s (small-bytes s (body .small)) e (g .next) (g .is) in
+        let p = interaction-point s (small-bytes s small) e (g .next) (g .is) in
         let fit : length (encoded S) ≤ length buf = rw (state-bytes, used-long) (k .within) in
         rw (eq-eqb _ _ (run-49 33 s (p .room)), le-leb 87 (length buf) room-87, p .is)
         (ap (over 37 (pointBytes (H .sn) (H .said) ++ (2 ∷ []))) (sym state-over)

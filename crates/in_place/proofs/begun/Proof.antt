@@ -1,0 +1,29 @@
+use Rattle.in_place.proofs.Parts.{made}
+use borrow.Author.Needs.{needs}
+use Rattle.in_place.proofs.begun.Statement.{statement}
+use Rattle.in_place.proofs.begun.Tie as tie
+
+copy-item-requires : tie.Need-copy-item-requires
+copy-item-requires c κs = search needs
+
+copy-items-requires : tie.Need-copy-items-requires
+copy-items-requires c κs = search needs
+
+copy-config-requires : tie.Need-copy-config-requires
+copy-config-requires c κs = search needs
+
+can-move-requires : tie.Need-can-move-requires
+can-move-requires c κs = search needs
+
+returns : tie.Need-returns
+returns c = made _ _ _ _ _ _ _ _ _ _ (c .before .before .before .copy-item .ensures) (c .before .before .copy-items .ensures) (c .before .copy-config .ensures) (c .can-move .ensures)
+
+pub begun-spec : {M : Type 1} → statement M
+begun-spec =
+    tie.close
+    (tie.spec
+    copy-item-requires
+    copy-items-requires
+    copy-config-requires
+    can-move-requires
+    returns)
