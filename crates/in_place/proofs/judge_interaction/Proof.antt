@@ -1,29 +1,44 @@
+use Prim.Native.Nat.{_≤_, _-_}
+use mathlib.Core.Path.{_≡_, _∙_, ap}
+use mathlib.Core.List.{List}
+use Prim.Native.Nat.{ℕ}
+use lib.ListN.{length}
+use Rattle.in_place.proofs.Parts.{four-used, inner-used}
+use Rattle.event.specs.declared.Ilk.the-variants.{Interaction}
+use Rattle.record.specs.Marks.{stateOf, eventOf}
+use Rattle.ingest.specs.Judgement.{interacts}
 use borrow.Author.Needs.{needs}
 use Rattle.in_place.proofs.judge_interaction.Statement.{statement}
 use Rattle.in_place.proofs.judge_interaction.Tie as tie
-use Rattle.in_place.proofs.judge_interaction.Reads as reads
-use Rattle.in_place.proofs.judge_interaction.Lts as lts
-use Rattle.judge.proofs.interact.Reads as interact-reads
 
--- src/lib.rt:252:21
 sub-interact : tie.Need-sub-interact
-sub-interact c = ?
+sub-interact c =
+    let k = c .before .before in
+    let a = k .args in
+    four-used (a .state .now) (a .used) (a .sm) (k .pre)
 
--- src/lib.rt:252:21
 part-interact-start : tie.Need-part-interact-start
-part-interact-start c = ?
+part-interact-start c =
+    let k = c .before .before in
+    let a = k .args in
+    let lower : 4 ≤ a .used = four-used (a .state .now) (a .used) (a .sm) (k .pre) in
+    search needs
 
--- src/lib.rt:252:21
 part-interact-end : tie.Need-part-interact-end
-part-interact-end c = search needs
+part-interact-end c =
+    let k = c .before .before in
+    let a = k .args in
+    let upper : a .used ≤ length (a .state .now) = k .pre .within in
+    search needs
 
--- src/lib.rt:252:5
 interact-requires : tie.Need-interact-requires
 interact-requires c κs = search needs
 
--- src/lib.rt:248:1
 returns : tie.Need-returns
-returns c = ?
+returns c =
+    let k = c .before .before .before .before in
+    let a = k .args in
+    c .interact .ensures ∙ ap (λ (st : List ℕ). interacts (stateOf st (a .sm)) (eventOf Interaction (a .s .now) (a .m))) (inner-used (a .state .now) (a .used) (a .sm) (k .pre))
 
 pub judge-interaction-spec : {M : Type 1} → statement M
 judge-interaction-spec =

@@ -1,29 +1,46 @@
+use Prim.Native.Nat.{_≤_, _-_}
+use mathlib.Core.Path.{_≡_, _∙_, ap}
+use mathlib.Core.List.{List}
+use Prim.Native.Nat.{ℕ}
+use lib.ListN.{length}
+use Rattle.in_place.proofs.Parts.{four-used, inner-used}
+use Rattle.event.specs.declared.Ilk.the-variants.{Rotation}
+use Rattle.parts.specs.Parts.{bodyOf}
+use Rattle.record.specs.Marks.{stateOf, eventOf}
+use Rattle.rules.specs.Rules.{changed, newWitnesses}
+use Rattle.ingest.specs.Judgement.{rotates}
 use borrow.Author.Needs.{needs}
 use Rattle.in_place.proofs.judge_rotation.Statement.{statement}
 use Rattle.in_place.proofs.judge_rotation.Tie as tie
-use Rattle.in_place.proofs.judge_rotation.Reads as reads
-use Rattle.in_place.proofs.judge_rotation.Lts as lts
-use Rattle.judge.proofs.rotate.Reads as rotate-reads
 
--- src/lib.rt:245:19
 sub-rotate : tie.Need-sub-rotate
-sub-rotate c = ?
+sub-rotate c =
+    let k = c .before .before in
+    let a = k .args in
+    four-used (a .state .now) (a .used) (a .sm) (k .pre)
 
--- src/lib.rt:245:19
 part-rotate-start : tie.Need-part-rotate-start
-part-rotate-start c = ?
+part-rotate-start c =
+    let k = c .before .before in
+    let a = k .args in
+    let lower : 4 ≤ a .used = four-used (a .state .now) (a .used) (a .sm) (k .pre) in
+    search needs
 
--- src/lib.rt:245:19
 part-rotate-end : tie.Need-part-rotate-end
-part-rotate-end c = search needs
+part-rotate-end c =
+    let k = c .before .before in
+    let a = k .args in
+    let upper : a .used ≤ length (a .state .now) = k .pre .within in
+    search needs
 
--- src/lib.rt:245:5
 rotate-requires : tie.Need-rotate-requires
 rotate-requires c κs = search needs
 
--- src/lib.rt:241:1
 returns : tie.Need-returns
-returns c = ?
+returns c =
+    let k = c .before .before .before .before in
+    let a = k .args in
+    c .rotate .ensures ∙ ap (λ (st : List ℕ). changed (rotates (stateOf st (a .sm)) (eventOf Rotation (a .s .now) (a .m))) (newWitnesses (stateOf st (a .sm)) (bodyOf (a .s .now) (a .m .body)))) (inner-used (a .state .now) (a .used) (a .sm) (k .pre))
 
 pub judge-rotation-spec : {M : Type 1} → statement M
 judge-rotation-spec =

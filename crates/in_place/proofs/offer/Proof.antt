@@ -1,64 +1,76 @@
+use mathlib.Core.Path.{_≡_, refl, sym, _∙_, ap}
+use Prim.Native.Nat.{_≤_, _-_}
+use native.Mathlib.Omega.{arith}
+use lib.ListN.{length, take}
+use Rattle.answer.specs.declared.Answer.{Answer}
+use Rattle.found.proofs.Laws.{first-is, first-within, first-told}
+use Rattle.in_place.specs.Steps.{left}
+use Rattle.in_place.proofs.Answers.{instead-left, offer-short, offer-first, body-of, each-of}
 use borrow.Author.Needs.{needs}
 use Rattle.in_place.proofs.offer.Statement.{statement}
 use Rattle.in_place.proofs.offer.Tie as tie
-use Rattle.in_place.proofs.offer.Reads as reads
-use Rattle.in_place.proofs.offer.Lts as lts
-use Rattle.found.proofs.first_record.Reads as first-record-reads
-use Rattle.found.proofs.in_buffer.Reads as in-buffer-reads
-use Rattle.in_place.proofs.instead.Reads as instead-reads
-use Rattle.in_place.proofs.offer_body.Reads as offer-body-reads
 
--- src/lib.rt:390:9
 in-buffer-requires : tie.Need-in-buffer-requires
 in-buffer-requires c κs = search needs
 
--- src/lib.rt:391:33
 first-record-requires : tie.Need-first-record-requires
 first-record-requires c κs = search needs
 
--- src/lib.rt:391:19
 enum-known-mark : tie.Need-enum-known-mark
 enum-known-mark c = search needs
 
--- src/lib.rt:392:9
 enum-told : tie.Need-enum-told
 enum-told c = search needs
 
--- src/lib.rt:392:9
 instead-requires : tie.Need-instead-requires
 instead-requires c κs = search needs
 
--- src/lib.rt:392:9
 same-length : tie.Need-same-length
 same-length c = search needs
 
--- src/lib.rt:392:9
 returns : tie.Need-returns
-returns c = ?
+returns c =
+    let a = c .before .before .before .before .before .before .before .before .before .args in
+    let b = a .state .now in
+    let u = a .used .now in
+    let held = c .before .before .before .before .in-buffer in
+    each-of (
+    offer-short b u (held .result) (held .ensures .0) (held .ensures .1 .0) (held .ensures .1 .1) (a .input .now) (first-is (a .input .now) _ (c .before .enum-told .given .1) (c .before .before .before .first-record .ensures .0)) _
+    (ap (λ (x : Answer). left x b u) (c .instead .ensures) ∙ instead-left b u (take u b) (held .result) 1 (λ z. absurd (omega arith)) (held .ensures .1 .0)))
 
--- src/lib.rt:394:41
 sub-offer-body : tie.Need-sub-offer-body
-sub-offer-body c = ?
+sub-offer-body c =
+    let w = first-within (c .before .before .before .before .before .before .before .before .before .before .before .args .input .now) _ (c .before .before .before .mark .given .1) (c .before .before .before .before .before .first-record .ensures .1) in
+    w .0
 
--- src/lib.rt:394:41
 part-offer-body-start : tie.Need-part-offer-body-start
-part-offer-body-start c = ?
+part-offer-body-start c =
+    let w = first-within (c .before .before .before .before .before .before .before .before .before .before .before .args .input .now) _ (c .before .before .before .mark .given .1) (c .before .before .before .before .before .first-record .ensures .1) in
+    let lower : 4 ≤ c .before .before .before .mark .given .0 .1 .0 = w .0 in
+    search needs
 
--- src/lib.rt:394:41
 part-offer-body-end : tie.Need-part-offer-body-end
-part-offer-body-end c = ?
+part-offer-body-end c =
+    let w = first-within (c .before .before .before .before .before .before .before .before .before .before .before .args .input .now) _ (c .before .before .before .mark .given .1) (c .before .before .before .before .before .first-record .ensures .1) in
+    let upper : c .before .before .before .mark .given .0 .1 .0 ≤ length (c .before .before .before .before .before .before .before .before .before .before .before .args .input .now) = w .1 .0 in
+    search needs
 
--- src/lib.rt:394:5
 offer-body-requires : tie.Need-offer-body-requires
-offer-body-requires c κs = ?
+offer-body-requires c κs =
+    let s = c .before .before .before .before .before .before .before .before .before .before .before .before .args .input .now in
+    let w = first-within s _ (c .before .before .before .before .mark .given .1) (c .before .before .before .before .before .before .first-record .ensures .1) in
+    let e = first-is s _ (c .before .before .before .before .mark .given .1) (c .before .before .before .before .before .before .first-record .ensures .0) in
+    (c .before .before .before .before .before .before .before .in-buffer .ensures .1 .0, (c .before .before .before .before .before .before .before .in-buffer .ensures .1 .1, body-of s _ (w .1 .1) (first-told s _ _ _ e .1)))
 
--- src/lib.rt:384:1
 same-length-2 : tie.Need-same-length-2
 same-length-2 c = search needs
 
--- src/lib.rt:384:1
 returns-2 : tie.Need-returns-2
-returns-2 c = ?
+returns-2 c =
+    let a = c .before .before .before .before .before .before .before .before .before .before .before .before .before .before .before .args in
+    let held = c .before .before .before .before .before .before .before .before .before .before .in-buffer in
+    each-of (
+    offer-first (a .state .now) (a .used .now) (held .result) (held .ensures .0) (held .ensures .1 .0) (held .ensures .1 .1) (a .input .now) (c .before .before .before .before .before .before .before .mark .given .0 .0) (c .before .before .before .before .before .before .before .mark .given .0 .1 .0) (first-is (a .input .now) _ (c .before .before .before .before .before .before .before .mark .given .1) (c .before .before .before .before .before .before .before .before .before .first-record .ensures .0)) _ (c .before .before .offer-body .ensures))
 
 pub offer-spec : {M : Type 1} → statement M
 offer-spec =

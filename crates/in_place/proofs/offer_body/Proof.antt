@@ -1,55 +1,61 @@
+use mathlib.Core.Path.{_≡_, refl, sym, _∙_, ap}
+use lib.ListN.{take}
+use Rattle.answer.specs.declared.Answer.{Answer}
+use Rattle.state.specs.declared.Holder.{Holder}
+use Rattle.layout.specs.Records.{contentOf}
+use Rattle.receive.specs.Gate.{contentJudged}
+use Rattle.in_place.specs.Steps.{left}
+use Rattle.in_place.proofs.Answers.{by-held, held-none, keeps-of, not-zero}
 use borrow.Author.Needs.{needs}
 use Rattle.in_place.proofs.offer_body.Statement.{statement}
 use Rattle.in_place.proofs.offer_body.Tie as tie
-use Rattle.in_place.proofs.offer_body.Reads as reads
-use Rattle.in_place.proofs.offer_body.Lts as lts
-use Rattle.answer.proofs.refuse.Reads as refuse-reads
-use Rattle.in_place.proofs.offer_held.Reads as offer-held-reads
-use Rattle.in_place.proofs.offer_nothing.Reads as offer-nothing-reads
 
--- src/lib.rt:377:18
 enum-known-held : tie.Need-enum-known-held
 enum-known-held c = search needs
 
--- src/lib.rt:377:25
 offer-held-requires : tie.Need-offer-held-requires
-offer-held-requires c κs = ?
+offer-held-requires c κs =
+    let k = c .before .before .before .before .before .before .before in
+    let a = k .args in
+    (keeps-of (a .state .now) (a .used .now) (a .held) _ (c .before .before .before .held .given .1) (k .pre .0) (k .pre .1 .0), k .pre .1 .1)
 
--- src/lib.rt:378:40
 enum-told : tie.Need-enum-told
 enum-told c = search needs
 
--- src/lib.rt:378:26
 offer-nothing-requires : tie.Need-offer-nothing-requires
-offer-nothing-requires c κs = search needs
+offer-nothing-requires c κs =
+    c .before .before .before .before .before .before .pre .1 .1
 
--- src/lib.rt:379:18
 enum-known-held-2 : tie.Need-enum-known-held-2
 enum-known-held-2 c = search needs
 
--- src/lib.rt:379:24
 refuse-requires : tie.Need-refuse-requires
 refuse-requires c κs = search needs
 
--- src/lib.rt:370:1
 same-length : tie.Need-same-length
 same-length c = search needs
 
--- src/lib.rt:370:1
 returns : tie.Need-returns
-returns c = ?
+returns c =
+    let a = c .before .before .before .before .before .before .before .before .before .before .args in
+    by-held (a .state .now) (a .used .now) (λ (h : Holder). contentJudged h (contentOf (a .mark) (a .s .now))) (take (a .used .now) (a .state .now)) (a .held) _ (c .before .before .before .before .before .before .held .given .1) _ (c .before .before .offer-held .ensures)
 
--- src/lib.rt:370:1
 same-length-2 : tie.Need-same-length-2
 same-length-2 c = search needs
 
--- src/lib.rt:370:1
 returns-2 : tie.Need-returns-2
-returns-2 c = ?
+returns-2 c =
+    let a = c .before .before .before .before .before .before .before .before .before .args in
+    by-held (a .state .now) (a .used .now) (λ (h : Holder). contentJudged h (contentOf (a .mark) (a .s .now))) (take (a .used .now) (a .state .now)) (a .held) _ (c .before .before .before .before .before .enum-told .given .1) _ (c .before .before .offer-nothing .ensures)
 
--- src/lib.rt:370:1
 returns-3 : tie.Need-returns-3
-returns-3 c = ?
+returns-3 c =
+    let k = c .before .before .before .before .before .before in
+    let a = k .args in
+    let n = c .before .before .held2 .given .0 .0 in
+    by-held (a .state .now) (a .used .now) (λ (h : Holder). contentJudged h (contentOf (a .mark) (a .s .now))) (take (a .used .now) (a .state .now)) (a .held) _ (c .before .before .held2 .given .1) _
+    (ap (λ (x : Answer). left x (a .state .now) (a .used .now)) (c .refuse .ensures)
+    ∙ held-none (a .state .now) (a .used .now) (λ (h : Holder). contentJudged h (contentOf (a .mark) (a .s .now))) (take (a .used .now) (a .state .now)) n (not-zero (a .state .now) (a .used .now) (a .held) n (c .before .before .held2 .given .1) (k .pre .0)))
 
 pub offer-body-spec : {M : Type 1} → statement M
 offer-body-spec =

@@ -1,109 +1,128 @@
+use mathlib.Core.Path.{_≡_, refl, sym, _∙_, ap}
+use native.Mathlib.Omega.{arith}
+use Rattle.answer.specs.declared.Answer.{Answer}
+use Rattle.event.specs.declared.Ilk.the-variants.{Inception, Rotation, Interaction, DelegatedInception, DelegatedRotation}
+use Rattle.layout.specs.Records.{delegated}
+use Rattle.record.specs.Marks.{stateOf, eventOf}
+use Rattle.state.specs.State.{holding}
+use Rattle.empty.specs.Empty.{nothing}
+use Rattle.in_place.specs.Steps.{stateAt, left}
+use Rattle.in_place.proofs.Answers.{by-content, read-as, placed-as, unread, away-left, refused-left, held-snapshot}
 use borrow.Author.Needs.{needs}
 use Rattle.in_place.proofs.offer_held.Statement.{statement}
 use Rattle.in_place.proofs.offer_held.Tie as tie
-use Rattle.in_place.proofs.offer_held.Reads as reads
-use Rattle.in_place.proofs.offer_held.Lts as lts
-use Rattle.answer.proofs.refuse.Reads as refuse-reads
-use Rattle.found.proofs.by_mark.Reads as by-mark-reads
-use Rattle.in_place.proofs.away.Reads as away-reads
-use Rattle.in_place.proofs.offer_interaction.Reads as offer-interaction-reads
-use Rattle.in_place.proofs.offer_rotation.Reads as offer-rotation-reads
 
--- src/lib.rt:330:11
 by-mark-requires : tie.Need-by-mark-requires
 by-mark-requires c κs = search needs
 
--- src/lib.rt:331:31
 enum-told : tie.Need-enum-told
 enum-told c = search needs
 
--- src/lib.rt:331:31
 away-requires : tie.Need-away-requires
 away-requires c κs = search needs
 
--- src/lib.rt:332:24
 enum-known-m : tie.Need-enum-known-m
 enum-known-m c = search needs
 
--- src/lib.rt:332:30
 offer-rotation-requires : tie.Need-offer-rotation-requires
-offer-rotation-requires c κs = ?
+offer-rotation-requires c κs =
+    let k = c .before .before .before .before .before .before .before .before .before in
+    (k .pre .0, (placed-as (k .args .s .now) _ _ (c .before .before .before .m .given .1) (c .before .before .before .before .before .by-mark .ensures .1), k .pre .1))
 
--- src/lib.rt:333:27
 enum-known-m-2 : tie.Need-enum-known-m-2
 enum-known-m-2 c = search needs
 
--- src/lib.rt:335:13
 offer-interaction-requires : tie.Need-offer-interaction-requires
-offer-interaction-requires c κs = ?
+offer-interaction-requires c κs =
+    let k = c .before .before .before .before .before .before .before .before .before in
+    (k .pre .0, placed-as (k .args .s .now) _ _ (c .before .before .before .m2 .given .1) (c .before .before .before .before .before .by-mark .ensures .1))
 
--- src/lib.rt:337:37
 enum-told-2 : tie.Need-enum-told-2
 enum-told-2 c = search needs
 
--- src/lib.rt:337:37
 away-requires-2 : tie.Need-away-requires-2
 away-requires-2 c κs = search needs
 
--- src/lib.rt:338:36
 enum-told-3 : tie.Need-enum-told-3
 enum-told-3 c = search needs
 
--- src/lib.rt:338:36
 away-requires-3 : tie.Need-away-requires-3
 away-requires-3 c κs = search needs
 
--- src/lib.rt:339:30
 enum-told-4 : tie.Need-enum-told-4
 enum-told-4 c = search needs
 
--- src/lib.rt:339:30
 refuse-requires : tie.Need-refuse-requires
 refuse-requires c κs = search needs
 
--- src/lib.rt:340:18
 enum-known-n : tie.Need-enum-known-n
 enum-known-n c = search needs
 
--- src/lib.rt:340:24
 refuse-requires-2 : tie.Need-refuse-requires-2
 refuse-requires-2 c κs = search needs
 
--- src/lib.rt:317:1
 returns : tie.Need-returns
-returns c = ?
+returns c =
+    let a = c .before .before .before .before .before .before .before .args in
+    let s = stateAt (a .state .now) (a .used .now) (a .sm) in
+    let as-told = read-as (a .s .now) (a .mark) _ _ (c .before .enum-told .given .1) (c .before .before .before .by-mark .ensures .0) in
+    by-content (a .state .now) (a .used .now) (holding s) _ _ as-told _
+    (ap (λ (x : Answer). left x (a .state .now) (a .used .now)) (c .away .ensures)
+    ∙ away-left s (eventOf Inception (a .s .now) (c .before .enum-told .given .0 .0)) (a .state .now) (a .used .now) 9 (λ z. absurd (omega arith)) refl)
 
--- src/lib.rt:317:1
 same-length : tie.Need-same-length
 same-length c = search needs
 
--- src/lib.rt:317:1
 returns-2 : tie.Need-returns-2
-returns-2 c = ?
+returns-2 c =
+    let a = c .before .before .before .before .before .before .before .before .before .before .before .before .args in
+    let s = stateAt (a .state .now) (a .used .now) (a .sm) in
+    by-content (a .state .now) (a .used .now) (holding s) _ _ (read-as (a .s .now) (a .mark) _ _ (c .before .before .before .before .before .before .m .given .1) (c .before .before .before .before .before .before .before .before .by-mark .ensures .0)) _ (c .before .before .offer-rotation .ensures)
 
--- src/lib.rt:317:1
 same-length-2 : tie.Need-same-length-2
 same-length-2 c = search needs
 
--- src/lib.rt:317:1
 returns-3 : tie.Need-returns-3
-returns-3 c = ?
+returns-3 c =
+    let a = c .before .before .before .before .before .before .before .before .before .before .before .before .args in
+    let s = stateAt (a .state .now) (a .used .now) (a .sm) in
+    by-content (a .state .now) (a .used .now) (holding s) _ _ (read-as (a .s .now) (a .mark) _ _ (c .before .before .before .before .before .before .m2 .given .1) (c .before .before .before .before .before .before .before .before .by-mark .ensures .0)) _ (c .before .before .offer-interaction .ensures)
 
--- src/lib.rt:317:1
 returns-4 : tie.Need-returns-4
-returns-4 c = ?
+returns-4 c =
+    let a = c .before .before .before .before .before .before .before .args in
+    let s = stateAt (a .state .now) (a .used .now) (a .sm) in
+    let as-told = read-as (a .s .now) (a .mark) _ _ (c .before .enum-told2 .given .1) (c .before .before .before .by-mark .ensures .0) in
+    by-content (a .state .now) (a .used .now) (holding s) _ _ as-told _
+    (ap (λ (x : Answer). left x (a .state .now) (a .used .now)) (c .away2 .ensures)
+    ∙ away-left s (delegated DelegatedInception) (a .state .now) (a .used .now) 6 (λ z. absurd (omega arith)) refl)
 
--- src/lib.rt:317:1
 returns-5 : tie.Need-returns-5
-returns-5 c = ?
+returns-5 c =
+    let a = c .before .before .before .before .before .before .before .args in
+    let s = stateAt (a .state .now) (a .used .now) (a .sm) in
+    let as-told = read-as (a .s .now) (a .mark) _ _ (c .before .enum-told3 .given .1) (c .before .before .before .by-mark .ensures .0) in
+    by-content (a .state .now) (a .used .now) (holding s) _ _ as-told _
+    (ap (λ (x : Answer). left x (a .state .now) (a .used .now)) (c .away3 .ensures)
+    ∙ away-left s (delegated DelegatedRotation) (a .state .now) (a .used .now) 7 (λ z. absurd (omega arith)) refl)
 
--- src/lib.rt:317:1
 returns-6 : tie.Need-returns-6
-returns-6 c = ?
+returns-6 c =
+    let a = c .before .before .before .before .before .before .before .args in
+    let s = stateAt (a .state .now) (a .used .now) (a .sm) in
+    let as-told = read-as (a .s .now) (a .mark) _ _ (c .before .enum-told4 .given .1) (c .before .before .before .by-mark .ensures .0) in
+    by-content (a .state .now) (a .used .now) (holding s) _ _ as-told _
+    (ap (λ (x : Answer). left x (a .state .now) (a .used .now)) (c .refuse .ensures)
+    ∙ held-snapshot (a .state .now) (a .used .now) s (stateOf (a .s .now) (c .before .enum-told4 .given .0 .0)))
 
--- src/lib.rt:317:1
 returns-7 : tie.Need-returns-7
-returns-7 c = ?
+returns-7 c =
+    let a = c .before .before .before .before .before .before .before .before .args in
+    let s = stateAt (a .state .now) (a .used .now) (a .sm) in
+    let as-told = read-as (a .s .now) (a .mark) _ _ (c .before .before .n .given .1) (c .before .before .before .before .by-mark .ensures .0) in
+    by-content (a .state .now) (a .used .now) (holding s) _ _ as-told _
+    (ap (λ (x : Answer). left x (a .state .now) (a .used .now)) (c .refuse2 .ensures)
+    ∙ refused-left (a .state .now) (a .used .now) (holding s) (c .before .before .n .given .0 .0) (unread (a .mark) (c .before .before .n .given .0 .0) (a .s .now) as-told))
 
 pub offer-held-spec : {M : Type 1} → statement M
 offer-held-spec =

@@ -1,30 +1,31 @@
+use Rattle.in_place.specs.Calls.{settledIn}
+use mathlib.Core.Path.{_≡_, refl, sym, _∙_, ap}
+use Rattle.event.specs.declared.Ilk.the-variants.{Inception}
+use Rattle.record.specs.Marks.{eventOf}
+use Rattle.in_place.proofs.Answers.{judged-nothing, nothing-left, nothing-took}
 use borrow.Author.Needs.{needs}
 use Rattle.in_place.proofs.offer_inception.Statement.{statement}
 use Rattle.in_place.proofs.offer_inception.Tie as tie
-use Rattle.in_place.proofs.offer_inception.Reads as reads
-use Rattle.in_place.proofs.offer_inception.Lts as lts
-use Rattle.in_place.proofs.begin.Reads as begin-reads
-use Rattle.judge.proofs.incept.Reads as incept-reads
 
--- src/lib.rt:260:9
 incept-requires : tie.Need-incept-requires
 incept-requires c κs = search needs
 
--- src/lib.rt:262:9
 returns : tie.Need-returns
-returns c = ?
+returns c =
+    let a = c .before .before .before .before .before .args in
+    nothing-left (eventOf Inception (a .s .now) (a .m)) (a .state .now) (a .used .now) _ (c .before .before .incept .ensures) (c .if1 .taken)
 
--- src/lib.rt:264:5
 begin-requires : tie.Need-begin-requires
 begin-requires c κs = search needs
 
--- src/lib.rt:255:1
 same-length : tie.Need-same-length
 same-length c = search needs
 
--- src/lib.rt:255:1
 returns-2 : tie.Need-returns-2
-returns-2 c = ?
+returns-2 c =
+    let a = c .before .before .before .before .before .before .before .before .before .before .args in
+    c .before .before .begin .ensures ∙ nothing-took (eventOf Inception (a .s .now) (a .m)) (a .state .now) (a .used .now) _ (c .before .before .before .before .before .before .before .incept .ensures) (c .before .before .before .before .before .if1 .left)
+    ∙ ap (settledIn (a .state .now) (a .used .now)) (judged-nothing (eventOf Inception (a .s .now) (a .m)))
 
 pub offer-inception-spec : {M : Type 1} → statement M
 offer-inception-spec =

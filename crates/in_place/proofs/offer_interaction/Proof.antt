@@ -1,43 +1,48 @@
+use mathlib.Core.Bool.{true, false}
+use Rattle.answer.specs.declared.Answer.{Answer}
+use mathlib.Core.Path.{_≡_, refl, sym, _∙_, ap}
+use borrow.Author.Tests.{not-true, not-false}
+use Rattle.event.specs.declared.Ilk.the-variants.{Interaction}
+use Rattle.record.specs.Marks.{eventOf}
+use Rattle.in_place.specs.Steps.{stateAt, left}
+use Rattle.in_place.proofs.Answers.{moves, closed-left, live-left, live-took, clean-interacts}
 use borrow.Author.Needs.{needs}
 use Rattle.in_place.proofs.offer_interaction.Statement.{statement}
 use Rattle.in_place.proofs.offer_interaction.Tie as tie
-use Rattle.in_place.proofs.offer_interaction.Reads as reads
-use Rattle.in_place.proofs.offer_interaction.Lts as lts
-use Rattle.answer.proofs.refuse.Reads as refuse-reads
-use Rattle.in_place.proofs.judge_interaction.Reads as judge-interaction-reads
-use Rattle.in_place.proofs.step.Reads as step-reads
 
--- src/lib.rt:308:9
 refuse-requires : tie.Need-refuse-requires
 refuse-requires c κs = search needs
 
--- src/lib.rt:308:9
 returns : tie.Need-returns
-returns c = ?
+returns c =
+    let a = c .before .before .before .before .before .args in
+    let s = stateAt (a .state .now) (a .used) (a .sm) in
+    ap (λ (x : Answer). left x (a .state .now) (a .used)) (c .refuse .ensures) ∙ closed-left s (eventOf Interaction (a .s .now) (a .m)) (a .state .now) (a .used) (moves s false (not-true (a .sm .last .transferable) (c .before .if1 .taken)))
 
--- src/lib.rt:310:9
 judge-interaction-requires : tie.Need-judge-interaction-requires
 judge-interaction-requires c κs = search needs
 
--- src/lib.rt:312:9
 same-length : tie.Need-same-length
 same-length c = search needs
 
--- src/lib.rt:312:9
 returns-2 : tie.Need-returns-2
-returns-2 c = ?
+returns-2 c =
+    let a = c .before .before .before .before .before .before .before .before .args in
+    let s = stateAt (a .state .now) (a .used) (a .sm) in
+    live-left s (eventOf Interaction (a .s .now) (a .m)) (a .state .now) (a .used) (moves s true (not-false (a .sm .last .transferable) (c .before .before .before .before .if1 .left))) _ (c .before .before .judge-interaction .ensures) (c .if2 .taken)
 
--- src/lib.rt:314:5
 step-requires : tie.Need-step-requires
 step-requires c κs = search needs
 
--- src/lib.rt:294:1
 same-length-2 : tie.Need-same-length-2
 same-length-2 c = search needs
 
--- src/lib.rt:294:1
 returns-3 : tie.Need-returns-3
-returns-3 c = ?
+returns-3 c =
+    let a = c .before .before .before .before .before .before .before .before .before .before .before .before .args in
+    let s = stateAt (a .state .now) (a .used) (a .sm) in
+    let e = eventOf Interaction (a .s .now) (a .m) in
+    c .before .before .step .ensures ∙ live-took s e (a .state .now) (a .used) (moves s true (not-false (a .sm .last .transferable) (c .before .before .before .before .before .before .before .before .if1 .left))) _ (c .before .before .before .before .before .before .judge-interaction .ensures) (clean-interacts s e) (c .before .before .before .before .if2 .left)
 
 pub offer-interaction-spec : {M : Type 1} → statement M
 offer-interaction-spec =

@@ -1,108 +1,117 @@
+use mathlib.Core.Path.{_≡_, refl, sym, _∙_, ap}
+use native.Mathlib.Omega.{arith}
+use Rattle.answer.specs.declared.Answer.{Answer}
+use Rattle.event.specs.declared.Ilk.the-variants.{Inception, Rotation, Interaction, DelegatedInception, DelegatedRotation}
+use Rattle.layout.specs.Records.{delegated}
+use Rattle.record.specs.Marks.{stateOf, eventOf}
+use Rattle.state.specs.State.{holding}
+use Rattle.empty.specs.Empty.{nothing}
+use Rattle.in_place.specs.Steps.{stateAt, left}
+use Rattle.in_place.proofs.Answers.{by-content, read-as, placed-as, unread, nothing-away, refused-left, nothing-snapshot}
 use borrow.Author.Needs.{needs}
 use Rattle.in_place.proofs.offer_nothing.Statement.{statement}
 use Rattle.in_place.proofs.offer_nothing.Tie as tie
-use Rattle.in_place.proofs.offer_nothing.Reads as reads
-use Rattle.in_place.proofs.offer_nothing.Lts as lts
-use Rattle.answer.proofs.refuse.Reads as refuse-reads
-use Rattle.found.proofs.by_mark.Reads as by-mark-reads
-use Rattle.in_place.proofs.offer_inception.Reads as offer-inception-reads
-use Rattle.in_place.proofs.take_in.Reads as take-in-reads
 
--- src/lib.rt:348:11
 by-mark-requires : tie.Need-by-mark-requires
 by-mark-requires c κs = search needs
 
--- src/lib.rt:349:25
 enum-known-m : tie.Need-enum-known-m
 enum-known-m c = search needs
 
--- src/lib.rt:349:31
 offer-inception-requires : tie.Need-offer-inception-requires
-offer-inception-requires c κs = ?
+offer-inception-requires c κs =
+    let k = c .before .before .before .before .before .before .before .before in
+    (placed-as (k .args .s .now) _ _ (c .before .before .before .m .given .1) (c .before .before .before .before .before .by-mark .ensures .1), k .pre)
 
--- src/lib.rt:350:30
 enum-told : tie.Need-enum-told
 enum-told c = search needs
 
--- src/lib.rt:350:30
 refuse-requires : tie.Need-refuse-requires
 refuse-requires c κs = search needs
 
--- src/lib.rt:351:33
 enum-told-2 : tie.Need-enum-told-2
 enum-told-2 c = search needs
 
--- src/lib.rt:351:33
 refuse-requires-2 : tie.Need-refuse-requires-2
 refuse-requires-2 c κs = search needs
 
--- src/lib.rt:352:37
 enum-told-3 : tie.Need-enum-told-3
 enum-told-3 c = search needs
 
--- src/lib.rt:352:37
 refuse-requires-3 : tie.Need-refuse-requires-3
 refuse-requires-3 c κs = search needs
 
--- src/lib.rt:353:36
 enum-told-4 : tie.Need-enum-told-4
 enum-told-4 c = search needs
 
--- src/lib.rt:353:36
 refuse-requires-4 : tie.Need-refuse-requires-4
 refuse-requires-4 c κs = search needs
 
--- src/lib.rt:354:24
 enum-known-m-2 : tie.Need-enum-known-m-2
 enum-known-m-2 c = search needs
 
--- src/lib.rt:354:30
 take-in-requires : tie.Need-take-in-requires
-take-in-requires c κs = ?
+take-in-requires c κs =
+    let k = c .before .before .before .before .before .before .before .before in
+    (placed-as (k .args .s .now) _ _ (c .before .before .before .m2 .given .1) (c .before .before .before .before .before .by-mark .ensures .1), k .pre)
 
--- src/lib.rt:355:18
 enum-known-n : tie.Need-enum-known-n
 enum-known-n c = search needs
 
--- src/lib.rt:355:24
 refuse-requires-5 : tie.Need-refuse-requires-5
 refuse-requires-5 c κs = search needs
 
--- src/lib.rt:344:1
 same-length : tie.Need-same-length
 same-length c = search needs
 
--- src/lib.rt:344:1
 returns : tie.Need-returns
-returns c = ?
+returns c =
+    let a = c .before .before .before .before .before .before .before .before .before .before .before .args in
+    by-content (a .state .now) (a .used .now) nothing _ _ (read-as (a .s .now) (a .mark) _ _ (c .before .before .before .before .before .before .m .given .1) (c .before .before .before .before .before .before .before .before .by-mark .ensures .0)) _ (c .before .before .offer-inception .ensures)
 
--- src/lib.rt:344:1
 returns-2 : tie.Need-returns-2
-returns-2 c = ?
+returns-2 c =
+    let a = c .before .before .before .before .before .before .args in
+    let as-told = read-as (a .s .now) (a .mark) _ _ (c .before .enum-told .given .1) (c .before .before .before .by-mark .ensures .0) in
+    by-content (a .state .now) (a .used .now) nothing _ _ as-told _
+    (ap (λ (x : Answer). left x (a .state .now) (a .used .now)) (c .refuse .ensures) ∙ nothing-away (eventOf Rotation (a .s .now) (c .before .enum-told .given .0 .0)) (a .state .now) (a .used .now) 8 (λ z. absurd (omega arith)) refl)
 
--- src/lib.rt:344:1
 returns-3 : tie.Need-returns-3
-returns-3 c = ?
+returns-3 c =
+    let a = c .before .before .before .before .before .before .args in
+    let as-told = read-as (a .s .now) (a .mark) _ _ (c .before .enum-told2 .given .1) (c .before .before .before .by-mark .ensures .0) in
+    by-content (a .state .now) (a .used .now) nothing _ _ as-told _
+    (ap (λ (x : Answer). left x (a .state .now) (a .used .now)) (c .refuse2 .ensures) ∙ nothing-away (eventOf Interaction (a .s .now) (c .before .enum-told2 .given .0 .0)) (a .state .now) (a .used .now) 8 (λ z. absurd (omega arith)) refl)
 
--- src/lib.rt:344:1
 returns-4 : tie.Need-returns-4
-returns-4 c = ?
+returns-4 c =
+    let a = c .before .before .before .before .before .before .args in
+    let as-told = read-as (a .s .now) (a .mark) _ _ (c .before .enum-told3 .given .1) (c .before .before .before .by-mark .ensures .0) in
+    by-content (a .state .now) (a .used .now) nothing _ _ as-told _
+    (ap (λ (x : Answer). left x (a .state .now) (a .used .now)) (c .refuse3 .ensures) ∙ nothing-away (delegated DelegatedInception) (a .state .now) (a .used .now) 6 (λ z. absurd (omega arith)) refl)
 
--- src/lib.rt:344:1
 returns-5 : tie.Need-returns-5
-returns-5 c = ?
+returns-5 c =
+    let a = c .before .before .before .before .before .before .args in
+    let as-told = read-as (a .s .now) (a .mark) _ _ (c .before .enum-told4 .given .1) (c .before .before .before .by-mark .ensures .0) in
+    by-content (a .state .now) (a .used .now) nothing _ _ as-told _
+    (ap (λ (x : Answer). left x (a .state .now) (a .used .now)) (c .refuse4 .ensures) ∙ nothing-away (delegated DelegatedRotation) (a .state .now) (a .used .now) 8 (λ z. absurd (omega arith)) refl)
 
--- src/lib.rt:344:1
 same-length-2 : tie.Need-same-length-2
 same-length-2 c = search needs
 
--- src/lib.rt:344:1
 returns-6 : tie.Need-returns-6
-returns-6 c = ?
+returns-6 c =
+    let a = c .before .before .before .before .before .before .before .before .before .before .before .args in
+    by-content (a .state .now) (a .used .now) nothing _ _ (read-as (a .s .now) (a .mark) _ _ (c .before .before .before .before .before .before .m2 .given .1) (c .before .before .before .before .before .before .before .before .by-mark .ensures .0)) _ (c .before .before .take-in .ensures ∙ nothing-snapshot (a .state .now) (a .used .now) (nothing .state) (stateOf (a .s .now) (c .before .before .before .before .before .before .m2 .given .0 .0)))
 
--- src/lib.rt:344:1
 returns-7 : tie.Need-returns-7
-returns-7 c = ?
+returns-7 c =
+    let a = c .before .before .before .before .before .before .before .args in
+    let as-told = read-as (a .s .now) (a .mark) _ _ (c .before .before .n .given .1) (c .before .before .before .before .by-mark .ensures .0) in
+    by-content (a .state .now) (a .used .now) nothing _ _ as-told _
+    (ap (λ (x : Answer). left x (a .state .now) (a .used .now)) (c .refuse5 .ensures)
+    ∙ refused-left (a .state .now) (a .used .now) nothing (c .before .before .n .given .0 .0) (unread (a .mark) (c .before .before .n .given .0 .0) (a .s .now) as-told))
 
 pub offer-nothing-spec : {M : Type 1} → statement M
 offer-nothing-spec =
