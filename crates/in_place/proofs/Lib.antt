@@ -1,3 +1,4 @@
 pub mod Written
 pub mod Answers
 pub mod Parts
+pub mod Theorems

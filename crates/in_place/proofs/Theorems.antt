@@ -32,9 +32,8 @@ use Rattle.resume.proofs.Decoded.{bytes-take}
 use Rattle.resume.proofs.Theorems.{Sound, sound-nothing, body-bytes, sound-event, sound-snapshot, short-record, saves, reads-back}
 use Rattle.log.proofs.Laws.{call-given}
 use Rattle.log.proofs.Steps.{takes-zero}
-use Rattle.device.specs.declared.Kept.{Kept}
-use Rattle.device.specs.Kept.{none, one, alone, snapshotFirst, stateIn, keptIn}
-use Rattle.device.specs.Calls.{Left, untouched, afterSaving, settledIn, onState, offeredIn, foldedFirst, foldedIn}
+use Rattle.found.specs.Kept.{Kept, none, one, alone, snapshotFirst, stateIn, keptIn}
+use Rattle.in_place.specs.Calls.{Left, untouched, afterSaving, settledIn, onState, offeredIn, foldedFirst, foldedIn}
 
 -- ---- what a record makes of a sound holder is sound, and held where the record was accepted
 record Fine (o : Offered) : Type 0 where
