@@ -13,25 +13,10 @@ has_cc() {
     return 1
 }
 
-# What the archive is made of, and the archive itself.
-archive_sum() {
-    (cd "$top" && rt --version && find crates crates.txt -type f -print0 | sort -z | xargs -0 cat &&
-        cat target/device/libkeystate.a) | sha256sum
-}
-
-# Proves and builds the archive, unless this one was built here from these sources: rt compiles it anew each time.
-need_archive() {
-    local built=$work/archive.sum
-    if [ ! -e "$top/target/device/libkeystate.a" ] || [ "$(archive_sum)" != "$(cat "$built" 2>/dev/null)" ]; then
-        with_kit library || die "the archive is not built"
-        archive_sum >"$built"
-    fi
-}
-
 # Both replay programs: over the archive, and over the archive with faults.
 need_replay() {
     need
-    need_archive
+    with_kit library || die "the archive is not built"
     rm -f "$top"/target/device/replay*
     with_kit build_c compare/device/replay.c target/device/replay -O2 || die "replay.c does not compile"
     with_kit build_c compare/device/replay.c target/device/replay-faulty -O2 -DFAULTY || die "faulty.h does not compile"
