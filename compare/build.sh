@@ -90,6 +90,8 @@ build_all() {
     build_oracle "$work/bin"
     crate generate bin "$here/generate/main.rs" "$work/bin" \
         --extern oracle_lib="$work/bin/liboracle_lib.rlib"
+    crate script bin "$here/device/script.rs" "$work/bin" \
+        --extern oracle_lib="$work/bin/liboracle_lib.rlib"
 }
 
 # The named cases, as Rust's own tests.

@@ -41,6 +41,10 @@ all() {
     side fold --fold --states "$beside --fold --states"
     check --streams 1 --records "$requests" --seed "$seed" --calls "$beside --calls" >"$work/calls.log" 2>&1 &
     jobs+=("calls $!")
+    if has_cc; then
+        (need_replay && device "$streams" "$seed") >"$work/device.log" 2>&1 &
+        jobs+=("device $!")
+    fi
     for job in "${jobs[@]}"; do
         if wait "${job#* }"; then
             echo "${job% *}: $(tail -n 1 "$work/${job% *}.log")"

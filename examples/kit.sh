@@ -10,11 +10,19 @@ missing() {
     [ -z "${CI:-}" ] || exit 1
 }
 
-# library: target/device/libkeystate.a, proved and compiled by the kit
+# archive_sum: what the archive is made of, and the archive itself
+archive_sum() {
+    { rt --version && find crates crates.txt -type f -print0 | sort -z | xargs -0 cat && cat "$work/libkeystate.a"; } | sha256sum
+}
+
+# library: target/device/libkeystate.a, proved and compiled by the kit; not again from the same sources, since rt compiles anew
+# each time
 library() {
     mkdir -p "$work"
+    [ ! -e "$work/libkeystate.a" ] || [ "$(archive_sum)" != "$(cat "$work/sum" 2>/dev/null)" ] || return 0
     rt staticlib device >"$work/log" 2>&1 || { tail -n 20 "$work/log"; exit 1; }
     cp target/staticlib/libdevice.a "$work/libkeystate.a"
+    archive_sum >"$work/sum"
 }
 
 # build_c SOURCE OUT [FLAG..]: by the machine's compiler on x86-64; else by the kit's, with the machine's headers

@@ -82,7 +82,7 @@ impl Writer {
         }
     }
 
-    pub(crate) fn threshold(&mut self, threshold: &Threshold) {
+    pub fn threshold(&mut self, threshold: &Threshold) {
         match threshold {
             Threshold::Simple(required) => {
                 self.spot(Spot::Tag, 0);
