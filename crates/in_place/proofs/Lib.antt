@@ -1,3 +1,4 @@
+pub mod Folds
 pub mod Written
 pub mod Answers
 pub mod Parts
