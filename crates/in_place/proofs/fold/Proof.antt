@@ -26,8 +26,9 @@ same-length c = search needs
 returns : tie.Need-returns
 returns c =
     let a = c .before .before .before .before .before .before .before .before .before .args in
+    let held = c .before .before .before .before .in-buffer .result in
     let k = c .before .before .before .before .in-buffer .ensures in
-    each-of (first-short (a .state .now) (a .used .now) (a .input .now) _ (k .0) (k .1 .0) (k .1 .1) (c .before .before .before .first-record .ensures .0) _ (c .before .enum-told .given .1) (c .instead .ensures))
+    each-of (first-short (a .state .now) (a .used .now) (a .input .now) held (k .0) (k .1 .0) (k .1 .1) (c .before .before .before .first-record .ensures .0) _ (c .before .enum-told .given .1) (c .instead .ensures))
 
 instead-requires-2 : tie.Need-instead-requires-2
 instead-requires-2 c κs = search needs
@@ -38,8 +39,9 @@ same-length-2 c = search needs
 returns-2 : tie.Need-returns-2
 returns-2 c =
     let a = c .before .before .before .before .before .before .before .before .before .before .before .args in
+    let held = c .before .before .before .before .before .before .in-buffer .result in
     let k = c .before .before .before .before .before .before .in-buffer .ensures in
-    each-of (first-snapshot (a .state .now) (a .used .now) (a .input .now) _ (k .0) (k .1 .0) (k .1 .1) (c .before .before .before .before .before .first-record .ensures .0) (c .before .before .before .mark .given .0 .0) (c .before .before .before .mark .given .0 .1 .0) (c .before .before .before .mark .given .1) _ (c .before .if1 .taken) (c .instead2 .ensures))
+    each-of (first-snapshot (a .state .now) (a .used .now) (a .input .now) held (k .0) (k .1 .0) (k .1 .1) (c .before .before .before .before .before .first-record .ensures .0) (c .before .before .before .mark .given .0 .0) (c .before .before .before .mark .given .0 .1 .0) (c .before .before .before .mark .given .1) _ (c .before .if1 .taken) (c .instead2 .ensures))
 
 sub-fold-body : tie.Need-sub-fold-body
 sub-fold-body c =
@@ -74,8 +76,9 @@ same-length-3 c = search needs
 returns-3 : tie.Need-returns-3
 returns-3 c =
     let a = c .before .before .before .before .before .before .before .before .before .before .before .before .before .before .before .before .args in
+    let held = c .before .before .before .before .before .before .before .before .before .before .before .in-buffer .result in
     let k = c .before .before .before .before .before .before .before .before .before .before .before .in-buffer .ensures in
-    each-of (first-folded (a .state .now) (a .used .now) (a .input .now) _ (k .0) (k .1 .0) (k .1 .1) (c .before .before .before .before .before .before .before .before .before .before .first-record .ensures .0) (c .before .before .before .before .before .before .before .before .mark .given .0 .0) (c .before .before .before .before .before .before .before .before .mark .given .0 .1 .0) (c .before .before .before .before .before .before .before .before .mark .given .1) _ (c .before .before .before .before .before .before .if1 .left) (c .before .before .fold-body .ensures))
+    each-of (first-folded (a .state .now) (a .used .now) (a .input .now) held (k .0) (k .1 .0) (k .1 .1) (c .before .before .before .before .before .before .before .before .before .before .first-record .ensures .0) (c .before .before .before .before .before .before .before .before .mark .given .0 .0) (c .before .before .before .before .before .before .before .before .mark .given .0 .1 .0) (c .before .before .before .before .before .before .before .before .mark .given .1) _ (c .before .before .before .before .before .before .if1 .left) (c .before .before .fold-body .ensures))
 
 pub fold-spec : {M : Type 1} → statement M
 fold-spec =
