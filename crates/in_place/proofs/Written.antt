@@ -110,15 +110,15 @@ module _ (buf : List ℕ) (used : ℕ) (s : KeyState) (shape : stateShape s ≡ 
     (np : length point ≤ 49)
     (nl : length last ≤ 49)
     (ng : length signers ≤ 65535)
-    where
-  assembled-state : assembled (looseOf s) point signers last buf ≡ placed (encoded s) buf
-  unfolding assembled
-  assembled-state =
-      rw (fits-all (looseOf s) point signers last few traits np nl ng, joined-body s point signers last p g l, framed-body s)
+  where
+    assembled-state : assembled (looseOf s) point signers last buf ≡ placed (encoded s) buf
+    unfolding assembled
+    assembled-state =
+        rw (fits-all (looseOf s) point signers last few traits np nl ng, joined-body s point signers last p g l, framed-body s)
 
-  pub written : (x : Loose) → x ≡ looseOf s → (r : Left) → r ≡ afterSaving used accepted (assembled x point signers last buf) → r ≡ settledIn buf used (took s)
-  unfolding settledIn
-  written x ex r er = er ∙ rw (ex, assembled-state, saved-placed s buf shape)
+    pub written : (x : Loose) → x ≡ looseOf s → (r : Left) → r ≡ afterSaving used accepted (assembled x point signers last buf) → r ≡ settledIn buf used (took s)
+    unfolding settledIn
+    written x ex r er = er ∙ rw (ex, assembled-state, saved-placed s buf shape)
 
 -- ---- an inception: the runs are the record's own
 module _ (buf : List ℕ) (used : ℕ) (s : List ℕ) (body : Body s) (r : Left) (x : Loose) where
@@ -255,18 +255,18 @@ module _ (buf : List ℕ) (used : ℕ) (m : StateMarks) (k : Keeps buf used m) w
       (few : list .count ≤ 16)
       (r : Left)
       (x : Loose)
-      where
-    pub rolled-settled : x ≡ looseOf (rotated (stateAt buf used m) (headOf s (e .head)) (bodyOf s (e .body)) list)
-        → r ≡ afterSaving used accepted (assembled x (take (82 - 33) (drop 33 s)) (take (e .body .additions .first - 1 - 115) (drop 115 s)) (take (82 - 33) (drop 33 s)) buf)
-        → r ≡ settledIn buf used (took (rotated (stateAt buf used m) (headOf s (e .head)) (bodyOf s (e .body)) list))
-    rolled-settled ex er =
-        let p = rotation-point s (small-bytes s (body .small)) e (g .next) (g .is) in
-        let q = rotation-signers s (small-bytes s (body .small)) e (g .next) (g .is) in
-        let n : length (take 49 (drop 33 s)) ≤ 49 = simp length-take (omega arith) in
-        let few-new : length (newWitnesses (stateAt buf used m) (bodyOf s (e .body))) ≤ 16 = rw el at few in
-        let shape : stateShape (rotated (stateAt buf used m) (headOf s (e .head)) (bodyOf s (e .body)) list) ≡ 0 =
-            rw el (rotated-shape (stateAt buf used m) (eventOf Rotation s e) state-shape few-new (rotation-shape s e g)) in
-        written buf used (rotated (stateAt buf used m) (headOf s (e .head)) (bodyOf s (e .body)) list) shape few
-        (few-traits (drop 4 (take used buf)) (m .body .config .count) (m .body .config .first))
-        (take 49 (drop 33 s)) (take (e .body .additions .first - 1 - 115) (drop 115 s)) (take 49 (drop 33 s))
-        (p .is) (q .is) (p .is) n n (short-run 115 (e .body .additions .first - 1 - 115) s (body .long)) x ex r er
+    where
+      pub rolled-settled : x ≡ looseOf (rotated (stateAt buf used m) (headOf s (e .head)) (bodyOf s (e .body)) list)
+          → r ≡ afterSaving used accepted (assembled x (take (82 - 33) (drop 33 s)) (take (e .body .additions .first - 1 - 115) (drop 115 s)) (take (82 - 33) (drop 33 s)) buf)
+          → r ≡ settledIn buf used (took (rotated (stateAt buf used m) (headOf s (e .head)) (bodyOf s (e .body)) list))
+      rolled-settled ex er =
+          let p = rotation-point s (small-bytes s (body .small)) e (g .next) (g .is) in
+          let q = rotation-signers s (small-bytes s (body .small)) e (g .next) (g .is) in
+          let n : length (take 49 (drop 33 s)) ≤ 49 = simp length-take (omega arith) in
+          let few-new : length (newWitnesses (stateAt buf used m) (bodyOf s (e .body))) ≤ 16 = rw el at few in
+          let shape : stateShape (rotated (stateAt buf used m) (headOf s (e .head)) (bodyOf s (e .body)) list) ≡ 0 =
+          rw el (rotated-shape (stateAt buf used m) (eventOf Rotation s e) state-shape few-new (rotation-shape s e g)) in
+          written buf used (rotated (stateAt buf used m) (headOf s (e .head)) (bodyOf s (e .body)) list) shape few
+          (few-traits (drop 4 (take used buf)) (m .body .config .count) (m .body .config .first))
+          (take 49 (drop 33 s)) (take (e .body .additions .first - 1 - 115) (drop 115 s)) (take 49 (drop 33 s))
+          (p .is) (q .is) (p .is) n n (short-run 115 (e .body .additions .first - 1 - 115) s (body .long)) x ex r er

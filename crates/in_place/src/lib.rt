@@ -314,13 +314,7 @@ fn offer_interaction(
     step(state, used, sm, s, m)
 }
 
-fn offer_held(
-    state: &mut [u8],
-    used: &mut usize,
-    sm: StateMarks,
-    mark: u16,
-    s: &[u8],
-) -> Answer
+fn offer_held(state: &mut [u8], used: &mut usize, sm: StateMarks, mark: u16, s: &[u8]) -> Answer
     requires { ⌜ Keeps (now state) (now used) sm ⌝ }
     requires { ⌜ Body (now s) ⌝ }
     ensures { λ r. ⌜ left r (now (state .exit)) (now (used .exit)) ≡ settledIn (now (state .entry)) (now (used .entry)) (contentJudged (holding (stateAt (now (state .entry)) (now (used .entry)) sm)) (contentOf mark (now (s .entry)))) ⌝ }
@@ -433,13 +427,7 @@ fn fold_rotation(
     roll(state, used, sm, s, m, list)
 }
 
-fn fold_held(
-    state: &mut [u8],
-    used: &mut usize,
-    sm: StateMarks,
-    mark: u16,
-    s: &[u8],
-) -> Answer
+fn fold_held(state: &mut [u8], used: &mut usize, sm: StateMarks, mark: u16, s: &[u8]) -> Answer
     requires { ⌜ Keeps (now state) (now used) sm ⌝ }
     requires { ⌜ Body (now s) ⌝ }
     ensures { λ r. ⌜ left r (now (state .exit)) (now (used .exit)) ≡ settledIn (now (state .entry)) (now (used .entry)) (contentFolded (holding (stateAt (now (state .entry)) (now (used .entry)) sm)) (contentOf mark (now (s .entry)))) ⌝ }
