@@ -188,6 +188,7 @@ fn shape(rounds: usize, before: Option<Size>, record: &Record) -> Vec<Time> {
         KeyStateSnapshot::from(&KeyState::incept(&signed).expect("a good inception"))
     });
     let state = held.as_ref().map_or(vec![], |held| writer::whole(&Record::Snapshot(rust::snapshot_back(held))).bytes);
+    let held_body = if state.is_empty() { &state[..] } else { &state[4..] };
     let event = rust::event(record);
     let (s, r) = signed_parts(record);
     let signed = Signed::from_host_asserted_parts(&event, b"", rust::sigers(s), rust::sigers(r));
@@ -197,7 +198,7 @@ fn shape(rounds: usize, before: Option<Size>, record: &Record) -> Vec<Time> {
         // SAFETY: pointers and lengths are those of live vectors that do not overlap.
         Box::new(|n| assert!(unsafe { timing_read(mark, body.as_ptr(), body.len(), n) } < 3)),
         Box::new(|n| (0..n).for_each(|_| read(&bytes, None))),
-        Box::new(|n| assert_eq!(unsafe { timing_judge(state.as_ptr(), state.len(), mark, body.as_ptr(), body.len(), n) }, 0)),
+        Box::new(|n| assert_eq!(unsafe { timing_judge(held_body.as_ptr(), held_body.len(), mark, body.as_ptr(), body.len(), n) }, 0)),
         Box::new(|n| (0..n).for_each(|_| judge(held.as_ref(), &signed))),
         Box::new(|n| assert_eq!(unsafe { timing_both(state.as_ptr(), state.len(), bytes.as_ptr(), bytes.len(), n) }, 0)),
         Box::new(|n| (0..n).for_each(|_| read(&bytes, Some(held.as_ref())))),
