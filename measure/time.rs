@@ -28,10 +28,14 @@ struct Size {
     witnesses: usize,
     /// So many witnesses are cut and as many added.
     change: usize,
+    /// The prefix is the first key, not a digest.
+    basic: bool,
+    /// Signatures agree in all but their last byte.
+    alike: bool,
 }
 
-const ONE: Size = Size { keys: 1, weighted: false, signatures: 1, receipts: 0, witnesses: 0, change: 0 };
-const WIDEST: Size = Size { keys: 16, weighted: true, signatures: 48, receipts: 48, witnesses: 16, change: 16 };
+const ONE: Size = Size { keys: 1, weighted: false, signatures: 1, receipts: 0, witnesses: 0, change: 0, basic: false, alike: false };
+const WIDEST: Size = Size { keys: 16, weighted: true, signatures: 48, receipts: 48, witnesses: 16, change: 16, basic: false, alike: false };
 
 fn item(code: u8, number: usize) -> Item {
     let mut item = [0x55; 33];
@@ -44,13 +48,17 @@ fn items(code: u8, from: usize, count: usize) -> Vec<Item> {
     (from..from + count).map(|n| item(code, n)).collect()
 }
 
+fn prefix(z: Size) -> Item {
+    if z.basic { item(b'D', 0) } else { item(b'E', 1) }
+}
+
 /// One clause of weights 1/8: checked sums stay within 64 bits for 16 of them.
 fn threshold(z: Size) -> Threshold {
     if z.weighted { Threshold::Weighted(vec![vec![(1, 8); z.keys]]) } else { Threshold::Simple(z.keys as u64) }
 }
 
-/// No two are copies. Their bytes look random, as those of real ones do.
-fn signatures(count: usize, places: usize, ondex: bool) -> Vec<Signature> {
+/// No two are copies. Their bytes look random, as those of real ones do; or they differ at their end only.
+fn signatures(count: usize, places: usize, ondex: bool, alike: bool) -> Vec<Signature> {
     let mut seed: u64 = 88172645463325252;
     let mut random = || {
         seed ^= seed << 13;
@@ -60,7 +68,11 @@ fn signatures(count: usize, places: usize, ondex: bool) -> Vec<Signature> {
     };
     let one = |n: usize| {
         let mut raw = [0; 64];
-        raw.fill_with(&mut random);
+        if alike {
+            raw[63] = n as u8;
+        } else {
+            raw.fill_with(&mut random);
+        }
         let place = (n % places) as u32;
         Signature { code: b'A', index: place, ondex: ondex.then_some(place), raw, verified: true, matches: true }
     };
@@ -69,7 +81,7 @@ fn signatures(count: usize, places: usize, ondex: bool) -> Vec<Signature> {
 
 fn inception(z: Size) -> Record {
     Record::Inception(Inception {
-        prefix: item(b'E', 1),
+        prefix: prefix(z),
         sn: 0,
         said: item(b'E', 1),
         keys: items(b'D', 0, z.keys),
@@ -80,14 +92,14 @@ fn inception(z: Size) -> Record {
         toad: z.witnesses as u32,
         config: vec![],
         anchors: 0,
-        signatures: signatures(z.signatures, z.keys, false),
-        receipts: signatures(z.receipts, z.witnesses, false),
+        signatures: signatures(z.signatures, z.keys, false, z.alike),
+        receipts: signatures(z.receipts, z.witnesses, false, z.alike),
     })
 }
 
 fn rotation(z: Size) -> Record {
     Record::Rotation(Rotation {
-        prefix: item(b'E', 1),
+        prefix: prefix(z),
         sn: 1,
         said: item(b'E', 2),
         prior: item(b'E', 1),
@@ -99,20 +111,20 @@ fn rotation(z: Size) -> Record {
         removals: items(b'B', 0, z.change),
         toad: z.witnesses as u32,
         anchors: 0,
-        signatures: signatures(z.signatures, z.keys, true),
-        receipts: signatures(z.receipts, z.witnesses, false),
+        signatures: signatures(z.signatures, z.keys, true, z.alike),
+        receipts: signatures(z.receipts, z.witnesses, false, z.alike),
     })
 }
 
 fn interaction(z: Size) -> Record {
     Record::Interaction(Interaction {
-        prefix: item(b'E', 1),
+        prefix: prefix(z),
         sn: 1,
         said: item(b'E', 2),
         prior: item(b'E', 1),
         anchors: 1,
-        signatures: signatures(z.signatures, z.keys, false),
-        receipts: signatures(z.receipts, z.witnesses, false),
+        signatures: signatures(z.signatures, z.keys, false, z.alike),
+        receipts: signatures(z.receipts, z.witnesses, false, z.alike),
     })
 }
 
@@ -131,7 +143,11 @@ fn signed_parts(record: &Record) -> (&[Signature], &[Signature]) {
 fn judge<'e>(held: Option<&'e KeyStateSnapshot>, signed: &Signed<'e>) {
     match held {
         None => drop(black_box(KeyState::incept(black_box(signed)).expect("accepted"))),
-        Some(held) => drop(black_box(held.view().ingest(black_box(signed)).expect("accepted"))),
+        Some(held) => {
+            let mut view = held.view();
+            view.ingest_mut(black_box(signed)).expect("accepted");
+            drop(black_box(view));
+        }
     }
 }
 
@@ -225,7 +241,7 @@ fn shapes(rounds: usize) {
     println!("Nanoseconds a call: the median of {rounds} rounds (the least).\n");
     println!("| Shape | read: ours | Rust | ratio | judge: ours | Rust | ratio | both: ours | Rust | ratio | device's call | to the Rust's both |");
     println!("|---|---|---|---|---|---|---|---|---|---|---|---|");
-    for (name, size) in [("one key", ONE), ("widest", WIDEST)] {
+    for (name, size) in [("one key", ONE), ("one key, its own prefix", Size { basic: true, ..ONE }), ("widest", WIDEST), ("widest, alike", Size { alike: true, ..WIDEST })] {
         for (kind, before, record) in [("IC", None, inception(size)), ("RO", Some(size), rotation(size)), ("IX", Some(size), interaction(size))] {
             let t = shape(rounds, before, &record);
             println!("| {name}, {kind} | {} | {} | {} | {:.0} ({:.0}) | {:.2} ({:.2}) |", pair(t[0], t[1]), pair(t[2], t[3]), pair(t[4], t[5]),
