@@ -37,7 +37,7 @@ extern "C" {
 /* No record that can be accepted is longer, with its 4 leading bytes. */
 #define KEYSTATE_RECORD_BYTES 10089
 /* Measured by measure/stack, rounded up; it is no part of what is proved. */
-#define KEYSTATE_STACK_BYTES 49152
+#define KEYSTATE_STACK_BYTES 12288
 
 /* The numbers. a and b are the details: 0 unless named here. */
 enum keystate_number {

@@ -175,7 +175,7 @@ int main(void) {
   used = 3;
   measure("ask: no state's bytes", 1, ask);
   size_t buffers = sizeof state + sizeof input + sizeof details + sizeof used;
-  printf("deepest stack %zu\nbuffers: state %zu, record %zu, details and length %zu\nin all %zu bytes: %.1f KiB of 64\n", deepest, sizeof state, sizeof input,
+  printf("deepest stack %zu\nbuffers: state %zu, record %zu, details and length %zu\nin all %zu bytes: %.1f KiB, of 32 that we hold it to\n", deepest, sizeof state, sizeof input,
          sizeof details + sizeof used, deepest + buffers, (double)(deepest + buffers) / 1024);
-  return deepest + buffers > 64 * 1024 || deepest > KEYSTATE_STACK_BYTES;
+  return deepest + buffers > 32 * 1024 || deepest > KEYSTATE_STACK_BYTES;
 }
