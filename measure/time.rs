@@ -1,8 +1,9 @@
 //! Times the proved machine beside the given Rust, on the same bytes, in one run. Run it by measure/time.
 //!
-//! Read: a record's bytes to what is judged (the Rust: its event and its signatures). Judge: that to the answer and the next
-//! state. Both: bytes to the next state, by the one-record call. Device: keystate_offer, which reads the state's bytes too and
-//! writes the next ones. Each round runs each of them in turn, so that a busy machine hits all alike.
+//! Read: a record's bytes to what is judged (ours: its marks; the Rust: its event and its signatures). Judge: that to the answer
+//! (ours: a rotation's new list too; the Rust: the next state too). Device: keystate_offer, which reads the state's bytes and the
+//! record's, judges, and writes the next state's bytes; beside it the Rust's reading and judging. By value: our one-record call on
+//! a state in memory, which keyreport makes. Each round runs each of them in turn, so that a busy machine hits all alike.
 use std::hint::black_box;
 use std::time::Instant;
 
@@ -239,13 +240,13 @@ fn pair(ours: Time, rust: Time) -> String {
 
 fn shapes(rounds: usize) {
     println!("Nanoseconds a call: the median of {rounds} rounds (the least).\n");
-    println!("| Shape | read: ours | Rust | ratio | judge: ours | Rust | ratio | both: ours | Rust | ratio | device's call | to the Rust's both |");
+    println!("| Shape | read: ours | Rust | ratio | judge: ours | Rust | ratio | device's call | Rust's both | ratio | by value | ratio |");
     println!("|---|---|---|---|---|---|---|---|---|---|---|---|");
     for (name, size) in [("one key", ONE), ("one key, its own prefix", Size { basic: true, ..ONE }), ("widest", WIDEST), ("widest, alike", Size { alike: true, ..WIDEST })] {
         for (kind, before, record) in [("IC", None, inception(size)), ("RO", Some(size), rotation(size)), ("IX", Some(size), interaction(size))] {
             let t = shape(rounds, before, &record);
-            println!("| {name}, {kind} | {} | {} | {} | {:.0} ({:.0}) | {:.2} ({:.2}) |", pair(t[0], t[1]), pair(t[2], t[3]), pair(t[4], t[5]),
-                t[6].median, t[6].least, t[6].median / t[5].median, t[6].least / t[5].least);
+            println!("| {name}, {kind} | {} | {} | {} | {:.0} ({:.0}) | {:.2} ({:.2}) |", pair(t[0], t[1]), pair(t[2], t[3]), pair(t[6], t[5]),
+                t[4].median, t[4].least, t[4].median / t[5].median, t[4].least / t[5].least);
         }
     }
 }
