@@ -13,12 +13,15 @@ use Rattle.lists.specs.Lists.{pick, both}
 use Rattle.lists.proofs.Facts.{clash}
 use Rattle.answer.specs.declared.Answer.{Answer}
 use Rattle.answer.specs.Answer.{refused, accepted, passes}
+use Rattle.answer.proofs.Laws.{Clean, clean-first}
+use Rattle.event.specs.declared.Event.{Event}
 use Rattle.state.specs.declared.KeyState.{KeyState}
 use Rattle.state.specs.declared.Holder.{Holder}
 use Rattle.state.specs.State.{isHeld, holding}
 use Rattle.shape.specs.State.{holderShape}
 use Rattle.ingest.specs.declared.Offered.{Offered}
-use Rattle.ingest.specs.Judgement.{turnedAway, offered, settled}
+use Rattle.ingest.specs.Judgement.{turnedAway, answerTo, offered, settled}
+use Rattle.fold.specs.Fold.{foldAnswer, folded}
 use Rattle.empty.specs.Empty.{nothing}
 use Rattle.layout.specs.Records.{Content, event, snapshot, refusal, contentOf, First, record-of, truncated, firstOf, markOf, bodyLength}
 use Rattle.decoded.specs.Decoded.{Shaped}
@@ -28,39 +31,65 @@ use Rattle.snapshot.specs.Saved.{bodyBytes, encoded, saved}
 use Rattle.snapshot.proofs.Size.{record-size}
 use Rattle.receive.specs.Received.{taken, unlessBad, firstTaken, received}
 use Rattle.resume.specs.Resume.{Bytes}
-use Rattle.resume.proofs.Decoded.{bytes-take}
+use Rattle.resume.proofs.Real.{Real}
+use Rattle.resume.proofs.Decoded.{bytes-take, decoded-real}
+use Rattle.resume.proofs.Stays.{good-folds, real-folds}
 use Rattle.resume.proofs.Theorems.{Sound, sound-nothing, body-bytes, sound-event, sound-snapshot, short-record, saves, reads-back}
-use Rattle.log.proofs.Laws.{call-given}
-use Rattle.log.proofs.Steps.{takes-zero}
+use Rattle.fold_record.specs.Folded.{foldTaken}
 use Rattle.found.specs.Kept.{Kept, none, one, alone, snapshotFirst, stateIn, keptIn}
 use Rattle.in_place.specs.Calls.{Left, untouched, afterSaving, settledIn, onState, offeredIn, foldedFirst, foldedIn}
 
--- ---- what a record makes of a sound holder is sound, and held where the record was accepted
+-- ---- what a record makes of a sound holder is sound, and held where the record was accepted; "Details a and b are 0 unless named"
 record Fine (o : Offered) : Type 0 where
   sound : Sound (o .holder)
   held : passes (o .answer) ≡ true → isHeld (o .holder) ≡ true
+  zero : Clean (o .answer)
 
 holds : (s : KeyState) → isHeld (holding s) ≡ true
 unfolding isHeld
 holds s = refl
 
 away : (h : Holder) (n : ℕ) → Sound h → 1 ≤ n → Fine (turnedAway h n)
-away h n s p = record { sound = s; held = λ e. clash (sym e ∙ ne-eqb n 0 (λ z. let q : n ≡ 0 = z in absurd (omega arith))) }
+away h n s p =
+    let no : eqb n 0 ≡ false = ne-eqb n 0 (λ z. let q : n ≡ 0 = z in absurd (omega arith)) in
+    record { sound = s; held = λ e. clash (sym e ∙ no); zero = λ e. clash (sym e ∙ no) }
+
+module _ (h : Holder) (e : Event) where
+  zero-offered : Clean (offered h e .answer)
+  unfolding offered answerTo
+  zero-offered = clean-first _
+
+  zero-folded : Clean (folded h e .answer)
+  unfolding folded foldAnswer
+  zero-folded = clean-first _
 
 module _ (mark : ℕ) (body : List ℕ) (bytes : Bytes body) (h : Holder) (s : Sound h) where
+  -- a body's refusal is 2, 3 or 4
+  unread : (n : ℕ) → contentOf mark body ≡ refusal n → Fine (turnedAway h n)
+  unread n is =
+      let shape : Shaped (refusal n) = rw is at (decoded-shape mark body) in
+      let two = shape .0 in
+      away h n s (omega arith)
+
   fine-taken : (c : Content) → contentOf mark body ≡ c → Fine (taken h c)
   unfolding offered
   fine-taken (event e) is =
-      record { sound = sound-event mark body bytes h e is s; held = λ p. rw p (holds _) }
+      record { sound = sound-event mark body bytes h e is s; held = λ p. rw p (holds _); zero = zero-offered h e }
   fine-taken (snapshot k) is = by-test (isHeld h) refl
     where
       by-test : (t : Bool) → isHeld h ≡ t → Fine (settled h (pick t (refused 5 0 0) accepted) (holding k))
       by-test true e = away h 5 s (omega arith)
-      by-test false e = record { sound = sound-snapshot mark body bytes k is; held = λ p. holds k }
-  fine-taken (refusal n) is =
-      let shape : Shaped (refusal n) = rw is at (decoded-shape mark body) in
-      let two = shape .0 in
-      away h n s (omega arith)
+      by-test false e = record { sound = sound-snapshot mark body bytes k is; held = λ p. holds k; zero = λ p. refl }
+  fine-taken (refusal n) is = unread n is
+
+  fine-folded : (c : Content) → contentOf mark body ≡ c → Fine (foldTaken h c)
+  unfolding folded
+  fine-folded (event e) is =
+      let shape : Shaped (event e) = rw is at (decoded-shape mark body) in
+      let real : Real (event e) = rw is at (decoded-real mark body bytes) in
+      record { sound = record { shape = good-folds h e (s .shape) shape; real = real-folds h e (s .real) real }; held = λ p. rw p (holds _); zero = zero-folded h e }
+  fine-folded (snapshot k) is = away h 2 s (omega arith)
+  fine-folded (refusal n) is = unread n is
 
 -- the first record of a byte string, by the frame's test
 abbrev framed : Bool → List ℕ → First
@@ -77,14 +106,27 @@ good : (h : Holder) → Sound h → (x : Offered) → unlessBad h x ≡ x
 good h s x = rw (eq-eqb (holderShape h) 0 (s .shape))
 
 module _ (h : Holder) (sound : Sound h) (s : List ℕ) (bytes : Bytes s) where
+  abbrev content : Content
+  content = contentOf (markOf s) (take (bodyLength s) (drop 4 s))
+
   fine-received : Fine (received h s .offered)
   unfolding received
   fine-received = rw first-framed (by-test (whole s))
     where
       by-test : (t : Bool) → Fine (firstTaken h (length s) (framed t s) .offered)
       by-test true =
-          rw (good h sound (taken h (contentOf (markOf s) (take (bodyLength s) (drop 4 s)))))
-          (fine-taken (markOf s) (take (bodyLength s) (drop 4 s)) (body-bytes s bytes) h sound (contentOf (markOf s) (take (bodyLength s) (drop 4 s))) refl)
+          rw (good h sound (taken h content)) (fine-taken (markOf s) (take (bodyLength s) (drop 4 s)) (body-bytes s bytes) h sound content refl)
+      by-test false = rw (good h sound (turnedAway h 1)) (away h 1 sound (omega arith))
+
+  fine-first : Fine (foldedFirst h (firstOf s))
+  fine-first = rw first-framed (by-test (whole s))
+    where
+      by-mark : (t : Bool) → Fine (pick t (turnedAway h 2) (foldTaken h content))
+      by-mark true = away h 2 sound (omega arith)
+      by-mark false = fine-folded (markOf s) (take (bodyLength s) (drop 4 s)) (body-bytes s bytes) h sound content refl
+
+      by-test : (t : Bool) → Fine (foldedFirst h (framed t s))
+      by-test true = rw (good h sound (pick (eqb (markOf s) 0x4B53) (turnedAway h 2) (foldTaken h content))) (by-mark (eqb (markOf s) 0x4B53))
       by-test false = rw (good h sound (turnedAway h 1)) (away h 1 sound (omega arith))
 
 -- ---- what bytes hold is sound
@@ -204,32 +246,71 @@ module _ (buf : List ℕ) (used : ℕ) where
   refused-fold s = same-state (λ h. foldedFirst h (firstOf s)) (keptIn buf used)
 
 -- ---- an accepted record: its state is in the buffer, and the next call finds it there
+abbrev leaves : List ℕ → Holder → Left
+leaves buf h = record { answer = accepted; bytes = over 0 (encoded (h .state)) buf; used = size h }
+
+-- whatever it is that the call makes of the state
+module _ (buf : List ℕ) (used : ℕ) (good : keptIn buf used .number ≡ 0) (f : Holder → Offered) (fine : Fine (f (keptIn buf used .holder))) (took : passes (f (keptIn buf used .holder) .answer) ≡ true) where
+  abbrev after : Holder
+  after = f (keptIn buf used .holder) .holder
+
+  saved-on : size after ≤ length buf → onState buf used f (keptIn buf used) ≡ leaves buf after
+  unfolding settledIn
+  saved-on room = rw (eq-eqb (keptIn buf used .number) 0 good, took, saves after (fine .sound) (fine .held took) buf room, fine .zero took)
+
+  found-on : size after ≤ length buf → (l : Left) → l ≡ leaves buf after → keptIn (l .bytes) (l .used) ≡ one after
+  found-on room l is = rw is (kept-back after (fine .sound) (fine .held took) buf room)
+
+  enough : 2285 ≤ length buf → size after ≤ length buf
+  enough p =
+      let q = short-record after (fine .sound) (fine .held took) in
+      omega arith
+
 abbrev pub made : List ℕ → ℕ → List ℕ → Offered
 made buf used s = received (keptIn buf used .holder) s .offered
 
-module _ (buf : List ℕ) (used : ℕ) (s : List ℕ) (bytes : Bytes buf) (input : Bytes s) (good : keptIn buf used .number ≡ 0) (took : passes (made buf used s .answer) ≡ true) where
-  fine : Fine (made buf used s)
-  fine = fine-received (keptIn buf used .holder) (sound-kept buf used bytes) s input
+abbrev pub madeByFold : List ℕ → ℕ → List ℕ → Offered
+madeByFold buf used s = foldedFirst (keptIn buf used .holder) (firstOf s)
 
-  abbrev next : Holder
-  next = made buf used s .holder
+module _ (buf : List ℕ) (used : ℕ) (s : List ℕ) (bytes : Bytes buf) (input : Bytes s) (good : keptIn buf used .number ≡ 0) where
+  -- of an offer
+  module _ (took : passes (made buf used s .answer) ≡ true) where
+    abbrev next : Holder
+    next = made buf used s .holder
 
-  -- "Details a and b are 0 unless named"
-  zero : made buf used s .answer ≡ accepted
-  unfolding received
-  zero =
-      let e = call-given (keptIn buf used .holder) (length s) (firstOf s) in
-      ap (λ (o : Offered). o .answer) e ∙ takes-zero (keptIn buf used .holder) (firstOf s) (ap (λ (o : Offered). passes (o .answer)) (sym e) ∙ took)
+    abbrev offers : Holder → Offered
+    offers h = received h s .offered
 
-  pub saved-in : size next ≤ length buf
-      → offeredIn buf used s ≡ record { answer = accepted; bytes = over 0 (encoded (next .state)) buf; used = size next }
-  unfolding offeredIn settledIn
-  saved-in room = rw (eq-eqb (keptIn buf used .number) 0 good, took, saves next (fine .sound) (fine .held took) buf room, zero)
+    fine : Fine (made buf used s)
+    fine = fine-received (keptIn buf used .holder) (sound-kept buf used bytes) s input
 
-  pub found-again : size next ≤ length buf → keptIn (offeredIn buf used s .bytes) (offeredIn buf used s .used) ≡ one next
-  found-again room = rw (saved-in room) (kept-back next (fine .sound) (fine .held took) buf room)
+    pub saved-in : size next ≤ length buf → offeredIn buf used s ≡ leaves buf next
+    unfolding offeredIn
+    saved-in room = saved-on buf used good offers fine took room
 
-  pub suffices : 2285 ≤ length buf → size next ≤ length buf
-  suffices p =
-      let q = short-record next (fine .sound) (fine .held took) in
-      omega arith
+    pub found-again : size next ≤ length buf → keptIn (offeredIn buf used s .bytes) (offeredIn buf used s .used) ≡ one next
+    found-again room = found-on buf used good offers fine took room (offeredIn buf used s) (saved-in room)
+
+    pub suffices : 2285 ≤ length buf → size next ≤ length buf
+    suffices p = enough buf used good offers fine took p
+
+  -- of a fold
+  module _ (took : passes (madeByFold buf used s .answer) ≡ true) where
+    abbrev foldedNext : Holder
+    foldedNext = madeByFold buf used s .holder
+
+    abbrev folds : Holder → Offered
+    folds h = foldedFirst h (firstOf s)
+
+    folded-fine : Fine (madeByFold buf used s)
+    folded-fine = fine-first (keptIn buf used .holder) (sound-kept buf used bytes) s input
+
+    pub folded-saved-in : size foldedNext ≤ length buf → foldedIn buf used s ≡ leaves buf foldedNext
+    unfolding foldedIn
+    folded-saved-in room = saved-on buf used good folds folded-fine took room
+
+    pub folded-found-again : size foldedNext ≤ length buf → keptIn (foldedIn buf used s .bytes) (foldedIn buf used s .used) ≡ one foldedNext
+    folded-found-again room = found-on buf used good folds folded-fine took room (foldedIn buf used s) (folded-saved-in room)
+
+    pub folded-suffices : 2285 ≤ length buf → size foldedNext ≤ length buf
+    folded-suffices p = enough buf used good folds folded-fine took p

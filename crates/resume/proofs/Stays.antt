@@ -1,7 +1,8 @@
--- An accepted event makes a state of good shape whose numbers fit, from such a state and such an event. Assumes nothing.
---     Took            what an acceptance says, by the event's kind
---     good-stays      the shape
---     real-stays      the arrays and numbers
+-- An accepted event makes a state of good shape whose numbers fit, from such a state and such an event; so does a folded one.
+-- Assumes nothing.
+--     Took                           what an acceptance says, by the event's kind
+--     good-stays, good-folds         the shape
+--     real-stays, real-folds         the arrays and numbers
 use mathlib.Core.Path.{_≡_, refl, sym, _∙_}
 use mathlib.Core.Bool.{Bool, true, false}
 use mathlib.Core.List.{List, [], _∷_, _++_}
@@ -41,7 +42,8 @@ use Rattle.shape.specs.State.{stateHead, stateTail, stateShape, holderShape}
 use Rattle.rules.specs.Rules.{rotation, rewitness, newWitnesses}
 use Rattle.ingest.specs.Judgement.{offered, answerTo, judgement, onState, onNothing, whereLive, nextState, nextAs, rotates}
 use Rattle.snapshot.proofs.Shapes.{no-fault, item-fits, GoodState, good-state}
-use Rattle.snapshot.proofs.Real.{RealState}
+use Rattle.fold.specs.Fold.{foldable, foldedAs, foldAnswer, foldState, folded}
+use Rattle.snapshot.proofs.Real.{Words, RealState}
 use Rattle.decoded.proofs.Gives.{Each}
 use Rattle.decoded.proofs.Shapes.{Fits, clear, item-shape, items-shape}
 use Rattle.resume.proofs.Real.{RealEvent, RealHolder, Raw, real-packed, real-listed, no-words}
@@ -237,13 +239,13 @@ good-next DelegatedInception h e t p q = absurd t
 good-next DelegatedRotation h e t p q = absurd t
 
 -- ---- the arrays and numbers of the next state
-real-next : (k : Ilk) (h : Holder) (e : Event) → Took k h e → RealHolder h → RealEvent e → RealState (nextAs k (h .state) e)
-real-next Inception h e t p r =
+real-begun : (sn : Number) (e : Event) → Words (sn .high) (sn .low) → RealEvent e → RealState (begun sn (e .head) (e .body))
+real-begun sn e n r =
     let head = r .head in
     let body = r .body in
     record {
       prefix = head .prefix;
-      sn = no-words;
+      sn = n;
       said = head .said;
       keys = body .keys;
       own = body .own;
@@ -252,9 +254,12 @@ real-next Inception h e t p r =
       witnesses = body .additions;
       toad = body .toad;
       traits = body .traits;
-      since = no-words;
+      since = n;
       established = head .said;
     }
+
+real-next : (k : Ilk) (h : Holder) (e : Event) → Took k h e → RealHolder h → RealEvent e → RealState (nextAs k (h .state) e)
+real-next Inception h e t p r = real-begun (small 0) e no-words r
 real-next Rotation h e t p r =
     let head = r .head in
     let body = r .body in
@@ -329,4 +334,55 @@ module _ (h : Holder) (e : Event) where
     where
       by-test : (t : Bool) → passes (answerTo h e) ≡ t → RealHolder (pick t (holding (nextAs (e .ilk) (h .state) e)) h)
       by-test true a = λ held. real-next (e .ilk) h e (took h e a) p r
+      by-test false a = p
+
+-- ---- folded or refused: an inception keeps the event's own number, the others set what an accepted one sets
+fold-took : (k : Ilk) (h : Holder) (e : Event) → passes (foldable k h e) ≡ true → Took k h e
+fold-took Inception h e q = tt
+fold-took Rotation h e q = by-test (isHeld h) refl q
+  where
+    by-test : (t : Bool) → isHeld h ≡ t → passes (pick t (changeOf (newWitnesses (h .state) (e .body)) .answer) (refused 8 0 0)) ≡ true → Took Rotation h e
+    by-test true p r = (p, few-members (newWitnesses (h .state) (e .body)) r)
+    by-test false p r = clash (sym r)
+fold-took Interaction h e q = by-test (isHeld h) refl q
+  where
+    by-test : (t : Bool) → isHeld h ≡ t → passes (pick t accepted (refused 8 0 0)) ≡ true → Took Interaction h e
+    by-test true p r = p
+    by-test false p r = clash (sym r)
+fold-took DelegatedInception h e q = clash (sym q)
+fold-took DelegatedRotation h e q = clash (sym q)
+
+good-folded : (k : Ilk) (h : Holder) (e : Event) → Took k h e → holderShape h ≡ 0 → shapeAs k e ≡ 0 → GoodState (foldedAs k (h .state) e)
+good-folded Inception h e t p q = good-begun (e .head .sn) e q
+good-folded Rotation h e t p q = good-next Rotation h e t p q
+good-folded Interaction h e t p q = good-next Interaction h e t p q
+good-folded DelegatedInception h e t p q = absurd t
+good-folded DelegatedRotation h e t p q = absurd t
+
+real-folded : (k : Ilk) (h : Holder) (e : Event) → Took k h e → RealHolder h → RealEvent e → RealState (foldedAs k (h .state) e)
+real-folded Inception h e t p r = real-begun (e .head .sn) e (r .head .sn) r
+real-folded Rotation h e t p r = real-next Rotation h e t p r
+real-folded Interaction h e t p r = real-next Interaction h e t p r
+real-folded DelegatedInception h e t p r = absurd t
+real-folded DelegatedRotation h e t p r = absurd t
+
+module _ (h : Holder) (e : Event) where
+  folded-took : passes (foldAnswer h e) ≡ true → Took (e .ilk) h e
+  unfolding foldAnswer
+  folded-took p = fold-took (e .ilk) h e (first-passes _ _ (first-passes _ _ (first-passes _ _ p .1) .1) .0)
+
+  pub good-folds : holderShape h ≡ 0 → eventShape e ≡ 0 → holderShape (folded h e .holder) ≡ 0
+  unfolding folded foldState eventShape
+  good-folds p q = by-test (passes (foldAnswer h e)) refl
+    where
+      by-test : (t : Bool) → passes (foldAnswer h e) ≡ t → holderShape (pick t (holding (foldedAs (e .ilk) (h .state) e)) h) ≡ 0
+      by-test true a = holding-shape (foldedAs (e .ilk) (h .state) e) (state-clear _ (good-folded (e .ilk) h e (folded-took a) p q))
+      by-test false a = p
+
+  pub real-folds : RealHolder h → RealEvent e → RealHolder (folded h e .holder)
+  unfolding folded foldState
+  real-folds p r = by-test (passes (foldAnswer h e)) refl
+    where
+      by-test : (t : Bool) → passes (foldAnswer h e) ≡ t → RealHolder (pick t (holding (foldedAs (e .ilk) (h .state) e)) h)
+      by-test true a = λ held. real-folded (e .ilk) h e (folded-took a) p r
       by-test false a = p
