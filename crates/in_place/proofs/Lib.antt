@@ -1,3 +1,4 @@
+pub mod Held
 pub mod Folds
 pub mod Written
 pub mod Answers

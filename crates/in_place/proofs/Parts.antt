@@ -4,13 +4,12 @@
 --     ..-runs                                 the bounds of a record's runs
 use mathlib.Core.Path.{_≡_, sym, _∙_, ap}
 use mathlib.Core.Bool.{Bool, true, false, not}
-use mathlib.Core.List.{List, _++_}
-use Prim.Native.Nat.{ℕ, _+_, _-_, _≤_}
+use mathlib.Core.List.{List}
+use Prim.Native.Nat.{ℕ, _-_, _≤_}
 use native.Mathlib.Omega.{arith}
 use borrow.Author.Tests.{eq-eqb, ne-eqb}
 use lib.Dec.{eqb}
 use lib.ListN.{length, take, drop, length-take}
-use lib.Seq.{take-add, drop-at}
 use Rattle.lists.specs.Lists.{both}
 use Rattle.item.specs.declared.Item.{Item}
 use Rattle.item.specs.Item.{transferableOf}
@@ -31,6 +30,7 @@ use Rattle.found.specs.Found.{Got, Small}
 use Rattle.in_place.specs.Calls.{afterSaving}
 use Rattle.in_place.specs.Steps.{Body, stateAt, Keeps, left}
 use Rattle.in_place.proofs.Written.{small-bytes}
+use Rattle.in_place.proofs.Held.{run}
 
 -- ---- the flag
 module _ (h : Head) (b : E.Body) (t : Bool) (p : Item) (e : p ≡ h .prefix) (et : t ≡ transferableOf (p .code)) where
@@ -53,13 +53,6 @@ pub made : (p q : Item) (latest : ℕ) (w v : Items) (toad : ℕ) (c d : Config)
 made p q latest w v toad c d t u ep ew ec et = rw (ep, ew, ec, et)
 
 -- ---- the body of the record in the used bytes
-pub inner-part : (n m : ℕ) (l : List ℕ) → n ≤ m → m ≤ length l → drop n (take m l) ≡ take (m - n) (drop n l)
-inner-part n m l a b =
-    let e : m ≡ n + (m - n) = omega arith in
-    let k : length (take n l) ≡ n = simp length-take (omega arith) in
-    let t : take m l ≡ take n l ++ take (m - n) (drop n l) = ap (λ (i : ℕ). take i l) e ∙ take-add n (m - n) l in
-    ap (λ (x : List ℕ). drop n x) t ∙ drop-at (take n l) (take (m - n) (drop n l)) n k
-
 module _ (buf : List ℕ) (used : ℕ) (m : StateMarks) (k : Keeps buf used m) where
   pub four-used : 4 ≤ used
   four-used =
@@ -67,12 +60,9 @@ module _ (buf : List ℕ) (used : ℕ) (m : StateMarks) (k : Keeps buf used m) w
       let e : length (take used buf) ≤ used = simp length-take (omega arith) in
       omega arith
 
-  pub inner-used : take (used - 4) (drop 4 buf) ≡ drop 4 (take used buf)
-  inner-used = sym (inner-part 4 used buf four-used (k .within))
-
-  pub rolled-part : (h : Head) (b : E.Body) (list : Items) (x : Loose) → x ≡ looseOf (rotated (stateOf (take (used - 4) (drop 4 buf)) m) h b list)
-      → x ≡ looseOf (rotated (stateAt buf used m) h b list)
-  rolled-part h b list x e = e ∙ ap (λ (l : List ℕ). looseOf (rotated (stateOf l m) h b list)) inner-used
+pub rolled-part : (buf : List ℕ) (used : ℕ) (m : StateMarks) (h : Head) (b : E.Body) (list : Items) (x : Loose) → x ≡ looseOf (rotated (stateOf (take (used - 4) (drop 4 buf)) m) h b list)
+    → x ≡ looseOf (rotated (stateAt buf used m) h b list)
+rolled-part buf used m h b list x e = e ∙ ap (λ (l : List ℕ). looseOf (rotated (stateOf l m) h b list)) (run 4 used buf)
 
 -- ---- what a writing leaves
 module _ (used : ℕ) (p : Answer × List ℕ) (y : Answer) (buf : List ℕ) (ey : y ≡ p .0) (eb : buf ≡ p .1) where

@@ -3,30 +3,25 @@
 --     state-..        the used bytes are the record of the state at the marks
 --     ..-settled      what a writing left is what saving the next state leaves
 use mathlib.Core.Path.{_≡_, refl, sym, _∙_, ap}
-use mathlib.Core.Bool.{Bool, true, false}
+use mathlib.Core.Bool.{true}
 use mathlib.Core.List.{List, [], _∷_, _++_}
 use Prim.Native.Nat.{ℕ, suc, _+_, _-_, _*_, _/_, _%_, _<_, _≤_}
 use native.Mathlib.Omega.{arith}
 use native.Mathlib.Nat.{zero-add}
-use borrow.Author.Tests.{eq-eqb, ne-eqb, le-leb, leb-true}
+use borrow.Author.Tests.{eq-eqb, le-leb}
 use lib.ListN.{length, take, drop, length-take, length-drop, take-append-drop}
 use lib.Seq.{take-length}
-use Rattle.lists.specs.Lists.{pick, both}
-use Rattle.answer.specs.declared.Answer.{Answer}
-use Rattle.answer.specs.Answer.{refused, accepted}
+use Rattle.answer.specs.Answer.{accepted}
 use Rattle.event.specs.declared.Ilk.the-variants.{Inception, Rotation, Interaction}
 use Rattle.event.specs.declared.Head.{Head}
-use Rattle.event.specs.declared.Event.{Event}
 use Rattle.state.specs.declared.KeyState.{KeyState}
-use Rattle.state.specs.declared.Holder.{Holder}
 use Rattle.state.specs.State.{holding, genesis, rotated, stepped, isHeld}
 use Rattle.items.specs.declared.Items.{Items}
 use Rattle.items.specs.Items.{packed}
 use Rattle.shape.specs.Event.{shapeAs, eventShape}
 use Rattle.shape.specs.State.{stateShape}
 use Rattle.rules.specs.Rules.{newWitnesses}
-use Rattle.ingest.specs.Judgement.{nextAs}
-use Rattle.layout.specs.Records.{Content, event, snapshot, refusal, contentOf, markOf, bodyLength}
+use Rattle.layout.specs.Records.{event, snapshot, contentOf, markOf, bodyLength}
 use Rattle.decoded.specs.Decoded.{Shaped}
 use Rattle.decoded.proofs.Shapes.{decoded-shape}
 use Rattle.parts.specs.Parts.{headOf, bodyOf}
@@ -39,14 +34,13 @@ use Rattle.resume.proofs.Decoded.{bytes-drop}
 use Rattle.resume.proofs.Theorems.{Sound, sound-snapshot}
 use Rattle.resume.proofs.Stays.{begun-shape, rotated-shape, stepped-shape}
 use Rattle.snapshot.specs.declared.Loose.{Loose}
-use Rattle.snapshot.specs.Bytes.{be, itemBytes, over}
-use Rattle.snapshot.specs.Saved.{pointBytes, groupBytes, bodyBytes, encoded}
-use Rattle.snapshot.specs.Assembled.{framed, joined, looseOf, placed, fitting, assembled, pointed}
+use Rattle.snapshot.specs.Bytes.{be, over}
+use Rattle.snapshot.specs.Saved.{pointBytes, groupBytes, encoded}
+use Rattle.snapshot.specs.Assembled.{framed, looseOf, placed, fitting, assembled, pointed}
 use Rattle.snapshot.proofs.Assembled.{joined-body, framed-body, saved-placed, stepped-bytes, stepped-length}
 use Rattle.snapshot.proofs.Size.{item-size}
-use Rattle.canonical.specs.Canonical.{signersBytes}
 use Rattle.canonical.proofs.Laws.{inception-point, inception-signers, rotation-point, rotation-signers, interaction-point, snapshot-point, snapshot-signers, snapshot-last, snapshot-whole, few-items, few-traits}
-use Rattle.found.specs.Found.{Got, Whole, Small}
+use Rattle.found.specs.Found.{Got, Small}
 use Rattle.in_place.specs.Calls.{Left, afterSaving, settledIn}
 use Rattle.in_place.specs.Steps.{Body, stateAt, Keeps, left, took}
 

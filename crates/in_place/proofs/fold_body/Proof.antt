@@ -1,7 +1,7 @@
 use Rattle.layout.specs.Records.{contentOf}
 use Rattle.fold_record.specs.Steps.{contentFolded}
 use Rattle.found.specs.declared.Held as H
-use Rattle.in_place.proofs.Folds.{held-keeps, held-told, held-bad}
+use Rattle.in_place.proofs.Held.{held-keeps, held-told, held-bad}
 use borrow.Author.Needs.{needs}
 use Rattle.in_place.proofs.fold_body.Statement.{statement}
 use Rattle.in_place.proofs.fold_body.Tie as tie
@@ -46,7 +46,7 @@ returns-2 c =
 returns-3 : tie.Need-returns-3
 returns-3 c =
     let a = c .before .before .before .before .before .before .args in
-    held-bad (a .state .now) (a .used .now) (λ h. contentFolded h (contentOf (a .mark) (a .s .now))) _ _ (c .before .before .held2 .given .1) (c .before .before .before .before .before .before .pre .0) (c .refuse .ensures)
+    held-bad (a .state .now) (a .used .now) (λ h. contentFolded h (contentOf (a .mark) (a .s .now))) _ (c .before .before .held2 .given .1) (c .before .before .before .before .before .before .pre .0) (c .refuse .ensures)
 
 pub fold-body-spec : {M : Type 1} → statement M
 fold-body-spec =

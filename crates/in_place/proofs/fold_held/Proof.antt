@@ -1,9 +1,12 @@
+use mathlib.Core.Path.{refl}
 use Rattle.event.specs.declared.Ilk.the-variants.{Interaction}
 use Rattle.state.specs.State.{holding}
 use Rattle.record.specs.Marks.{eventOf}
+use Rattle.fold_record.specs.Steps.{contentFolded}
 use Rattle.found.specs.declared.Read as R
 use Rattle.in_place.specs.Steps.{stateAt}
-use Rattle.in_place.proofs.Folds.{placed-as, read-settled, interaction-settled, unread-settled, delegated-inception, delegated-rotation, snapshot-settled}
+use Rattle.in_place.proofs.Held.{placed-as, read-left, unread-left}
+use Rattle.in_place.proofs.Folds.{interaction-settled, delegated-inception, delegated-rotation, snapshot-settled}
 use borrow.Author.Needs.{needs}
 use Rattle.in_place.proofs.fold_held.Statement.{statement}
 use Rattle.in_place.proofs.fold_held.Tie as tie
@@ -65,7 +68,7 @@ same-length c = search needs
 returns : tie.Need-returns
 returns c =
     let a = c .before .before .before .before .before .before .before .before .before .before .before .args in
-    read-settled (a .state .now) (a .used .now) (holding (stateAt (a .state .now) (a .used .now) (a .sm))) (a .mark) (a .s .now) (c .before .before .before .before .before .before .before .before .by-mark .ensures .0) (R.the-variants.Inception _) (c .before .before .before .before .before .before .m .given .1) (c .before .before .begin .ensures)
+    read-left (a .state .now) (a .used .now) (contentFolded (holding (stateAt (a .state .now) (a .used .now) (a .sm)))) (a .mark) (a .s .now) (c .before .before .before .before .before .before .before .before .by-mark .ensures .0) (R.the-variants.Inception _) (c .before .before .before .before .before .before .m .given .1) (c .before .before .begin .ensures)
 
 same-length-2 : tie.Need-same-length-2
 same-length-2 c = search needs
@@ -73,7 +76,7 @@ same-length-2 c = search needs
 returns-2 : tie.Need-returns-2
 returns-2 c =
     let a = c .before .before .before .before .before .before .before .before .before .before .before .args in
-    read-settled (a .state .now) (a .used .now) (holding (stateAt (a .state .now) (a .used .now) (a .sm))) (a .mark) (a .s .now) (c .before .before .before .before .before .before .before .before .by-mark .ensures .0) (R.the-variants.Rotation _) (c .before .before .before .before .before .before .m2 .given .1) (c .before .before .fold-rotation .ensures)
+    read-left (a .state .now) (a .used .now) (contentFolded (holding (stateAt (a .state .now) (a .used .now) (a .sm)))) (a .mark) (a .s .now) (c .before .before .before .before .before .before .before .before .by-mark .ensures .0) (R.the-variants.Rotation _) (c .before .before .before .before .before .before .m2 .given .1) (c .before .before .fold-rotation .ensures)
 
 same-length-3 : tie.Need-same-length-3
 same-length-3 c = search needs
@@ -81,27 +84,27 @@ same-length-3 c = search needs
 returns-3 : tie.Need-returns-3
 returns-3 c =
     let a = c .before .before .before .before .before .before .before .before .before .before .before .args in
-    read-settled (a .state .now) (a .used .now) (holding (stateAt (a .state .now) (a .used .now) (a .sm))) (a .mark) (a .s .now) (c .before .before .before .before .before .before .before .before .by-mark .ensures .0) (R.the-variants.Interaction _) (c .before .before .before .before .before .before .m3 .given .1) (interaction-settled (a .state .now) (a .used .now) (stateAt (a .state .now) (a .used .now) (a .sm)) (eventOf Interaction (a .s .now) (c .before .before .before .before .before .before .m3 .given .0 .0)) _ (c .before .before .step .ensures))
+    read-left (a .state .now) (a .used .now) (contentFolded (holding (stateAt (a .state .now) (a .used .now) (a .sm)))) (a .mark) (a .s .now) (c .before .before .before .before .before .before .before .before .by-mark .ensures .0) (R.the-variants.Interaction _) (c .before .before .before .before .before .before .m3 .given .1) (interaction-settled (a .state .now) (a .used .now) (stateAt (a .state .now) (a .used .now) (a .sm)) (eventOf Interaction (a .s .now) (c .before .before .before .before .before .before .m3 .given .0 .0)) _ (c .before .before .step .ensures))
 
 returns-4 : tie.Need-returns-4
 returns-4 c =
     let a = c .before .before .before .before .before .before .args in
-    delegated-inception (a .state .now) (a .used .now) (holding (stateAt (a .state .now) (a .used .now) (a .sm))) (a .mark) (a .s .now) (c .before .before .before .by-mark .ensures .0) _ (c .before .enum-told .given .1) (c .refuse .ensures)
+    delegated-inception (a .state .now) (a .used .now) (holding (stateAt (a .state .now) (a .used .now) (a .sm))) (a .mark) (a .s .now) (c .before .before .before .by-mark .ensures .0) (c .before .enum-told .given .1) (c .refuse .ensures)
 
 returns-5 : tie.Need-returns-5
 returns-5 c =
     let a = c .before .before .before .before .before .before .args in
-    delegated-rotation (a .state .now) (a .used .now) (holding (stateAt (a .state .now) (a .used .now) (a .sm))) (a .mark) (a .s .now) (c .before .before .before .by-mark .ensures .0) _ (c .before .enum-told2 .given .1) (c .refuse2 .ensures)
+    delegated-rotation (a .state .now) (a .used .now) (holding (stateAt (a .state .now) (a .used .now) (a .sm))) (a .mark) (a .s .now) (c .before .before .before .by-mark .ensures .0) (c .before .enum-told2 .given .1) (c .refuse2 .ensures)
 
 returns-6 : tie.Need-returns-6
 returns-6 c =
     let a = c .before .before .before .before .before .before .args in
-    snapshot-settled (a .state .now) (a .used .now) (holding (stateAt (a .state .now) (a .used .now) (a .sm))) (a .mark) (a .s .now) (c .before .before .before .by-mark .ensures .0) _ _ (c .before .enum-told3 .given .1) (c .refuse3 .ensures)
+    snapshot-settled (a .state .now) (a .used .now) (holding (stateAt (a .state .now) (a .used .now) (a .sm))) (a .mark) (a .s .now) (c .before .before .before .by-mark .ensures .0) _ (c .before .enum-told3 .given .1) (c .refuse3 .ensures)
 
 returns-7 : tie.Need-returns-7
 returns-7 c =
     let a = c .before .before .before .before .before .before .before .args in
-    unread-settled (a .state .now) (a .used .now) (holding (stateAt (a .state .now) (a .used .now) (a .sm))) (a .mark) (a .s .now) (c .before .before .before .before .by-mark .ensures .0) _ _ (c .before .before .n .given .1) (c .refuse4 .ensures)
+    unread-left (a .state .now) (a .used .now) (contentFolded (holding (stateAt (a .state .now) (a .used .now) (a .sm)))) (a .mark) (a .s .now) (c .before .before .before .before .by-mark .ensures .0) (holding (stateAt (a .state .now) (a .used .now) (a .sm))) _ refl (c .before .before .n .given .1) (c .refuse4 .ensures)
 
 pub fold-held-spec : {M : Type 1} → statement M
 fold-held-spec =

@@ -1,6 +1,5 @@
 use Prim.Native.Nat.{_≤_}
-use native.Mathlib.Omega.{arith}
-use lib.ListN.{length, take, length-take}
+use Rattle.in_place.proofs.Parts.{four-used}
 use Rattle.in_place.proofs.Folds.{list-folded}
 use borrow.Author.Needs.{needs}
 use Rattle.in_place.proofs.fold_list.Statement.{statement}
@@ -9,21 +8,12 @@ use Rattle.in_place.proofs.fold_list.Tie as tie
 sub-copy-items : tie.Need-sub-copy-items
 sub-copy-items c =
     let s = c .before .before .before .before .before .before .before in
-    let k = s .pre in
-    let four = k .whole .four in
-    let within = k .within in
-    let n : length (take (s .args .used) (s .args .state .now)) ≤ s .args .used = simp length-take (omega arith) in
-    let lower : 4 ≤ s .args .used = omega arith in
-    lower
+    four-used (s .args .state .now) (s .args .used) (s .args .sm) (s .pre)
 
 part-copy-items-start : tie.Need-part-copy-items-start
 part-copy-items-start c =
     let s = c .before .before .before .before .before .before .before in
-    let k = s .pre in
-    let four = k .whole .four in
-    let within = k .within in
-    let n : length (take (s .args .used) (s .args .state .now)) ≤ s .args .used = simp length-take (omega arith) in
-    let lower : 4 ≤ s .args .used = omega arith in
+    let lower : 4 ≤ s .args .used = four-used (s .args .state .now) (s .args .used) (s .args .sm) (s .pre) in
     search needs
 
 part-copy-items-end : tie.Need-part-copy-items-end

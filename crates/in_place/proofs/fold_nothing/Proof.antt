@@ -1,6 +1,9 @@
+use mathlib.Core.Path.{refl}
 use Rattle.empty.specs.Empty.{nothing}
+use Rattle.fold_record.specs.Steps.{contentFolded}
 use Rattle.found.specs.declared.Read as R
-use Rattle.in_place.proofs.Folds.{placed-as, read-settled, empty-held, no-rotation, no-interaction, unread-settled, delegated-inception, delegated-rotation, snapshot-settled}
+use Rattle.in_place.proofs.Held.{placed-as, read-left, read-answer, unread-left}
+use Rattle.in_place.proofs.Folds.{no-rotation, no-interaction, delegated-inception, delegated-rotation, snapshot-settled}
 use borrow.Author.Needs.{needs}
 use Rattle.in_place.proofs.fold_nothing.Statement.{statement}
 use Rattle.in_place.proofs.fold_nothing.Tie as tie
@@ -58,37 +61,37 @@ same-length c = search needs
 returns : tie.Need-returns
 returns c =
     let a = c .before .before .before .before .before .before .before .before .before .before .before .args in
-    read-settled (a .state .now) (a .used .now) nothing (a .mark) (a .s .now) (c .before .before .before .before .before .before .before .before .by-mark .ensures .0) (R.the-variants.Inception _) (c .before .before .before .before .before .before .m .given .1) (c .before .before .begin .ensures)
+    read-left (a .state .now) (a .used .now) (contentFolded nothing) (a .mark) (a .s .now) (c .before .before .before .before .before .before .before .before .by-mark .ensures .0) (R.the-variants.Inception _) (c .before .before .before .before .before .before .m .given .1) (c .before .before .begin .ensures)
 
 returns-2 : tie.Need-returns-2
 returns-2 c =
     let a = c .before .before .before .before .before .before .args in
-    no-rotation (a .state .now) (a .used .now) nothing (a .mark) (a .s .now) (c .before .before .before .by-mark .ensures .0) empty-held _ _ (c .refuse .ensures) (c .before .enum-told .given .1)
+    read-answer (a .state .now) (a .used .now) (contentFolded nothing) (a .mark) (a .s .now) (c .before .before .before .by-mark .ensures .0) (R.the-variants.Rotation _) (c .before .enum-told .given .1) (c .refuse .ensures) (no-rotation (a .state .now) (a .used .now) (a .s .now) (c .before .enum-told .given .0 .0))
 
 returns-3 : tie.Need-returns-3
 returns-3 c =
     let a = c .before .before .before .before .before .before .args in
-    no-interaction (a .state .now) (a .used .now) nothing (a .mark) (a .s .now) (c .before .before .before .by-mark .ensures .0) empty-held _ _ (c .refuse2 .ensures) (c .before .enum-told2 .given .1)
+    read-answer (a .state .now) (a .used .now) (contentFolded nothing) (a .mark) (a .s .now) (c .before .before .before .by-mark .ensures .0) (R.the-variants.Interaction _) (c .before .enum-told2 .given .1) (c .refuse2 .ensures) (no-interaction (a .state .now) (a .used .now) (a .s .now) (c .before .enum-told2 .given .0 .0))
 
 returns-4 : tie.Need-returns-4
 returns-4 c =
     let a = c .before .before .before .before .before .before .args in
-    delegated-inception (a .state .now) (a .used .now) nothing (a .mark) (a .s .now) (c .before .before .before .by-mark .ensures .0) _ (c .before .enum-told3 .given .1) (c .refuse3 .ensures)
+    delegated-inception (a .state .now) (a .used .now) nothing (a .mark) (a .s .now) (c .before .before .before .by-mark .ensures .0) (c .before .enum-told3 .given .1) (c .refuse3 .ensures)
 
 returns-5 : tie.Need-returns-5
 returns-5 c =
     let a = c .before .before .before .before .before .before .args in
-    delegated-rotation (a .state .now) (a .used .now) nothing (a .mark) (a .s .now) (c .before .before .before .by-mark .ensures .0) _ (c .before .enum-told4 .given .1) (c .refuse4 .ensures)
+    delegated-rotation (a .state .now) (a .used .now) nothing (a .mark) (a .s .now) (c .before .before .before .by-mark .ensures .0) (c .before .enum-told4 .given .1) (c .refuse4 .ensures)
 
 returns-6 : tie.Need-returns-6
 returns-6 c =
     let a = c .before .before .before .before .before .before .args in
-    snapshot-settled (a .state .now) (a .used .now) nothing (a .mark) (a .s .now) (c .before .before .before .by-mark .ensures .0) _ _ (c .before .enum-told5 .given .1) (c .refuse5 .ensures)
+    snapshot-settled (a .state .now) (a .used .now) nothing (a .mark) (a .s .now) (c .before .before .before .by-mark .ensures .0) _ (c .before .enum-told5 .given .1) (c .refuse5 .ensures)
 
 returns-7 : tie.Need-returns-7
 returns-7 c =
     let a = c .before .before .before .before .before .before .before .args in
-    unread-settled (a .state .now) (a .used .now) nothing (a .mark) (a .s .now) (c .before .before .before .before .by-mark .ensures .0) _ _ (c .before .before .n .given .1) (c .refuse6 .ensures)
+    unread-left (a .state .now) (a .used .now) (contentFolded nothing) (a .mark) (a .s .now) (c .before .before .before .before .by-mark .ensures .0) nothing _ refl (c .before .before .n .given .1) (c .refuse6 .ensures)
 
 pub fold-nothing-spec : {M : Type 1} → statement M
 fold-nothing-spec =

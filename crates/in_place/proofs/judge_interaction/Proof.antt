@@ -1,9 +1,10 @@
-use Prim.Native.Nat.{_≤_, _-_}
-use mathlib.Core.Path.{_≡_, _∙_, ap}
+use Prim.Native.Nat.{_≤_}
+use mathlib.Core.Path.{_∙_, ap}
 use mathlib.Core.List.{List}
 use Prim.Native.Nat.{ℕ}
 use lib.ListN.{length}
-use Rattle.in_place.proofs.Parts.{four-used, inner-used}
+use Rattle.in_place.proofs.Parts.{four-used}
+use Rattle.in_place.proofs.Held.{run}
 use Rattle.event.specs.declared.Ilk.the-variants.{Interaction}
 use Rattle.record.specs.Marks.{stateOf, eventOf}
 use Rattle.ingest.specs.Judgement.{interacts}
@@ -36,9 +37,8 @@ interact-requires c κs = search needs
 
 returns : tie.Need-returns
 returns c =
-    let k = c .before .before .before .before in
-    let a = k .args in
-    c .interact .ensures ∙ ap (λ (st : List ℕ). interacts (stateOf st (a .sm)) (eventOf Interaction (a .s .now) (a .m))) (inner-used (a .state .now) (a .used) (a .sm) (k .pre))
+    let a = c .before .before .before .before .args in
+    c .interact .ensures ∙ ap (λ (st : List ℕ). interacts (stateOf st (a .sm)) (eventOf Interaction (a .s .now) (a .m))) (run 4 (a .used) (a .state .now))
 
 pub judge-interaction-spec : {M : Type 1} → statement M
 judge-interaction-spec =

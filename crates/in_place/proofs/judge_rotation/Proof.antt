@@ -1,9 +1,10 @@
-use Prim.Native.Nat.{_≤_, _-_}
-use mathlib.Core.Path.{_≡_, _∙_, ap}
+use Prim.Native.Nat.{_≤_}
+use mathlib.Core.Path.{_∙_, ap}
 use mathlib.Core.List.{List}
 use Prim.Native.Nat.{ℕ}
 use lib.ListN.{length}
-use Rattle.in_place.proofs.Parts.{four-used, inner-used}
+use Rattle.in_place.proofs.Parts.{four-used}
+use Rattle.in_place.proofs.Held.{run}
 use Rattle.event.specs.declared.Ilk.the-variants.{Rotation}
 use Rattle.parts.specs.Parts.{bodyOf}
 use Rattle.record.specs.Marks.{stateOf, eventOf}
@@ -38,9 +39,8 @@ rotate-requires c κs = search needs
 
 returns : tie.Need-returns
 returns c =
-    let k = c .before .before .before .before in
-    let a = k .args in
-    c .rotate .ensures ∙ ap (λ (st : List ℕ). changed (rotates (stateOf st (a .sm)) (eventOf Rotation (a .s .now) (a .m))) (newWitnesses (stateOf st (a .sm)) (bodyOf (a .s .now) (a .m .body)))) (inner-used (a .state .now) (a .used) (a .sm) (k .pre))
+    let a = c .before .before .before .before .args in
+    c .rotate .ensures ∙ ap (λ (st : List ℕ). changed (rotates (stateOf st (a .sm)) (eventOf Rotation (a .s .now) (a .m))) (newWitnesses (stateOf st (a .sm)) (bodyOf (a .s .now) (a .m .body)))) (run 4 (a .used) (a .state .now))
 
 pub judge-rotation-spec : {M : Type 1} → statement M
 judge-rotation-spec =

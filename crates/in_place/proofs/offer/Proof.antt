@@ -1,11 +1,8 @@
-use mathlib.Core.Path.{_≡_, refl, sym, _∙_, ap}
-use Prim.Native.Nat.{_≤_, _-_}
-use native.Mathlib.Omega.{arith}
-use lib.ListN.{length, take}
-use Rattle.answer.specs.declared.Answer.{Answer}
-use Rattle.found.proofs.Laws.{first-is, first-within, first-told}
-use Rattle.in_place.specs.Steps.{left}
-use Rattle.in_place.proofs.Answers.{instead-left, offer-short, offer-first, body-of, each-of}
+use Prim.Native.Nat.{_≤_}
+use lib.ListN.{length}
+use Rattle.found.proofs.Laws.{first-is, first-within}
+use Rattle.in_place.proofs.Held.{each-of, first-body}
+use Rattle.in_place.proofs.Answers.{offer-short, offer-first}
 use borrow.Author.Needs.{needs}
 use Rattle.in_place.proofs.offer.Statement.{statement}
 use Rattle.in_place.proofs.offer.Tie as tie
@@ -31,12 +28,9 @@ same-length c = search needs
 returns : tie.Need-returns
 returns c =
     let a = c .before .before .before .before .before .before .before .before .before .args in
-    let b = a .state .now in
-    let u = a .used .now in
     let held = c .before .before .before .before .in-buffer in
-    each-of (
-    offer-short b u (held .result) (held .ensures .0) (held .ensures .1 .0) (held .ensures .1 .1) (a .input .now) (first-is (a .input .now) _ (c .before .enum-told .given .1) (c .before .before .before .first-record .ensures .0)) _
-    (ap (λ (x : Answer). left x b u) (c .instead .ensures) ∙ instead-left b u (take u b) (held .result) 1 (λ z. absurd (omega arith)) (held .ensures .1 .0)))
+    let first = first-is (a .input .now) _ (c .before .enum-told .given .1) (c .before .before .before .first-record .ensures .0) in
+    each-of (offer-short (a .state .now) (a .used .now) (held .result) (held .ensures .0) (held .ensures .1 .0) (held .ensures .1 .1) (a .input .now) first (c .instead .ensures))
 
 sub-offer-body : tie.Need-sub-offer-body
 sub-offer-body c =
@@ -58,9 +52,9 @@ part-offer-body-end c =
 offer-body-requires : tie.Need-offer-body-requires
 offer-body-requires c κs =
     let s = c .before .before .before .before .before .before .before .before .before .before .before .before .args .input .now in
-    let w = first-within s _ (c .before .before .before .before .mark .given .1) (c .before .before .before .before .before .before .first-record .ensures .1) in
-    let e = first-is s _ (c .before .before .before .before .mark .given .1) (c .before .before .before .before .before .before .first-record .ensures .0) in
-    (c .before .before .before .before .before .before .before .in-buffer .ensures .1 .0, (c .before .before .before .before .before .before .before .in-buffer .ensures .1 .1, body-of s _ (w .1 .1) (first-told s _ _ _ e .1)))
+    let k = c .before .before .before .before .before .before .before .in-buffer .ensures in
+    let f = c .before .before .before .before .before .before .first-record .ensures in
+    (k .1 .0, (k .1 .1, first-body s _ _ (c .before .before .before .before .mark .given .1) (f .1) (f .0)))
 
 same-length-2 : tie.Need-same-length-2
 same-length-2 c = search needs
@@ -69,8 +63,9 @@ returns-2 : tie.Need-returns-2
 returns-2 c =
     let a = c .before .before .before .before .before .before .before .before .before .before .before .before .before .before .before .args in
     let held = c .before .before .before .before .before .before .before .before .before .before .in-buffer in
-    each-of (
-    offer-first (a .state .now) (a .used .now) (held .result) (held .ensures .0) (held .ensures .1 .0) (held .ensures .1 .1) (a .input .now) (c .before .before .before .before .before .before .before .mark .given .0 .0) (c .before .before .before .before .before .before .before .mark .given .0 .1 .0) (first-is (a .input .now) _ (c .before .before .before .before .before .before .before .mark .given .1) (c .before .before .before .before .before .before .before .before .before .first-record .ensures .0)) _ (c .before .before .offer-body .ensures))
+    let given = c .before .before .before .before .before .before .before .mark .given in
+    let first = first-is (a .input .now) _ (given .1) (c .before .before .before .before .before .before .before .before .before .first-record .ensures .0) in
+    each-of (offer-first (a .state .now) (a .used .now) (held .result) (held .ensures .0) (held .ensures .1 .0) (held .ensures .1 .1) (a .input .now) (given .0 .0) (given .0 .1 .0) first (c .before .before .offer-body .ensures))
 
 pub offer-spec : {M : Type 1} → statement M
 offer-spec =

@@ -1,11 +1,7 @@
-use mathlib.Core.Path.{_≡_, refl, sym, _∙_, ap}
-use lib.ListN.{take}
-use Rattle.answer.specs.declared.Answer.{Answer}
-use Rattle.state.specs.declared.Holder.{Holder}
 use Rattle.layout.specs.Records.{contentOf}
 use Rattle.receive.specs.Gate.{contentJudged}
-use Rattle.in_place.specs.Steps.{left}
-use Rattle.in_place.proofs.Answers.{by-held, held-none, keeps-of, not-zero}
+use Rattle.found.specs.declared.Held as H
+use Rattle.in_place.proofs.Held.{held-keeps, held-told, held-bad}
 use borrow.Author.Needs.{needs}
 use Rattle.in_place.proofs.offer_body.Statement.{statement}
 use Rattle.in_place.proofs.offer_body.Tie as tie
@@ -15,16 +11,15 @@ enum-known-held c = search needs
 
 offer-held-requires : tie.Need-offer-held-requires
 offer-held-requires c κs =
-    let k = c .before .before .before .before .before .before .before in
-    let a = k .args in
-    (keeps-of (a .state .now) (a .used .now) (a .held) _ (c .before .before .before .held .given .1) (k .pre .0) (k .pre .1 .0), k .pre .1 .1)
+    let s = c .before .before .before .before .before .before .before in
+    let a = s .args in
+    (held-keeps (a .state .now) (a .used .now) (a .held) _ (c .before .before .before .held .given .1) (s .pre .0) (s .pre .1 .0), s .pre .1 .1)
 
 enum-told : tie.Need-enum-told
 enum-told c = search needs
 
 offer-nothing-requires : tie.Need-offer-nothing-requires
-offer-nothing-requires c κs =
-    c .before .before .before .before .before .before .pre .1 .1
+offer-nothing-requires c κs = c .before .before .before .before .before .before .pre .1 .1
 
 enum-known-held-2 : tie.Need-enum-known-held-2
 enum-known-held-2 c = search needs
@@ -38,7 +33,7 @@ same-length c = search needs
 returns : tie.Need-returns
 returns c =
     let a = c .before .before .before .before .before .before .before .before .before .before .args in
-    by-held (a .state .now) (a .used .now) (λ (h : Holder). contentJudged h (contentOf (a .mark) (a .s .now))) (take (a .used .now) (a .state .now)) (a .held) _ (c .before .before .before .before .before .before .held .given .1) _ (c .before .before .offer-held .ensures)
+    held-told (a .state .now) (a .used .now) (λ h. contentJudged h (contentOf (a .mark) (a .s .now))) (H.the-variants.Of _) (c .before .before .before .before .before .before .held .given .1) (c .before .before .offer-held .ensures)
 
 same-length-2 : tie.Need-same-length-2
 same-length-2 c = search needs
@@ -46,16 +41,12 @@ same-length-2 c = search needs
 returns-2 : tie.Need-returns-2
 returns-2 c =
     let a = c .before .before .before .before .before .before .before .before .before .args in
-    by-held (a .state .now) (a .used .now) (λ (h : Holder). contentJudged h (contentOf (a .mark) (a .s .now))) (take (a .used .now) (a .state .now)) (a .held) _ (c .before .before .before .before .before .enum-told .given .1) _ (c .before .before .offer-nothing .ensures)
+    held-told (a .state .now) (a .used .now) (λ h. contentJudged h (contentOf (a .mark) (a .s .now))) H.the-variants.Nothing (c .before .before .before .before .before .enum-told .given .1) (c .before .before .offer-nothing .ensures)
 
 returns-3 : tie.Need-returns-3
 returns-3 c =
-    let k = c .before .before .before .before .before .before in
-    let a = k .args in
-    let n = c .before .before .held2 .given .0 .0 in
-    by-held (a .state .now) (a .used .now) (λ (h : Holder). contentJudged h (contentOf (a .mark) (a .s .now))) (take (a .used .now) (a .state .now)) (a .held) _ (c .before .before .held2 .given .1) _
-    (ap (λ (x : Answer). left x (a .state .now) (a .used .now)) (c .refuse .ensures)
-    ∙ held-none (a .state .now) (a .used .now) (λ (h : Holder). contentJudged h (contentOf (a .mark) (a .s .now))) (take (a .used .now) (a .state .now)) n (not-zero (a .state .now) (a .used .now) (a .held) n (c .before .before .held2 .given .1) (k .pre .0)))
+    let a = c .before .before .before .before .before .before .args in
+    held-bad (a .state .now) (a .used .now) (λ h. contentJudged h (contentOf (a .mark) (a .s .now))) _ (c .before .before .held2 .given .1) (c .before .before .before .before .before .before .pre .0) (c .refuse .ensures)
 
 pub offer-body-spec : {M : Type 1} → statement M
 offer-body-spec =

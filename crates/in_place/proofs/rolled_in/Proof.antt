@@ -31,9 +31,8 @@ rolled-requires c κs = search needs
 
 returns : tie.Need-returns
 returns c =
-    let k = c .before .before .before .before in
-    let a = k .args in
-    rolled-part (a .state .now) (a .used) (a .sm) (k .pre) (headOf (a .s .now) (a .m .head)) (bodyOf (a .s .now) (a .m .body)) (a .list) _ (c .rolled .ensures)
+    let a = c .before .before .before .before .args in
+    rolled-part (a .state .now) (a .used) (a .sm) (headOf (a .s .now) (a .m .head)) (bodyOf (a .s .now) (a .m .body)) (a .list) _ (c .rolled .ensures)
 
 pub rolled-in-spec : {M : Type 1} → statement M
 rolled-in-spec =
