@@ -30,6 +30,7 @@ use Rattle.threshold_field.specs.declared.Marks.{Marks}
 use Rattle.threshold_field.specs.ThresholdField.{totalAt, passAt, simpleMarks, weightedMarks, weightedAt, marksAs, marksAt, weightOf, noWeight, thresholdOf}
 use Rattle.snapshot.specs.Bytes.{be, wordsBytes, itemBytes, each, itemsBytes, counted, configBytes, weightBytes, thresholdBytes, flagByte}
 use Rattle.snapshot.proofs.Laws.{simple-bytes, weighted-bytes}
+use Rattle.snapshot.proofs.Back.{each-byte}
 use Rattle.resume.specs.Resume.{Bytes}
 use Rattle.canonical.specs.Canonical.{Run}
 
@@ -110,12 +111,6 @@ module _ (s : List ℕ) where
         let m : p + w + n * w ≤ length s = omega (arith, rw suc-mul at l) in
         let e : p + suc n * w ≡ p + w + n * w = rw suc-mul (omega arith) in
         rw e (run-then p (p + w) (p + w + n * w) (g (v p)) _ (h p (omega arith)) (run-each n (p + w) m))
-
--- each byte of a list, one after another, is the list
-each-byte : (xs : List ℕ) → each (λ x. x ∷ []) xs ≡ xs
-unfolding each
-each-byte [] = refl
-each-byte (x ∷ xs) = ap (λ (ys : List ℕ). x ∷ ys) (each-byte xs)
 
 run-bytes : (s : List ℕ) (n p : ℕ) → p + n * 1 ≤ length s → Run s p (p + n * 1) (listOf (byteOf s) 1 n p)
 run-bytes s n p h = rw each-byte at (run-each s (λ x. x ∷ []) (byteOf s) 1 (run-byte s) n p h)

@@ -3,14 +3,11 @@
 --     held-..         a state that was read from the used bytes
 --     first-..        the first record of the input
 use mathlib.Core.Path.{_≡_, refl, sym, _∙_, ap}
-use mathlib.Core.Bool.{Bool, true, false}
-use mathlib.Core.List.{List, []}
+use mathlib.Core.List.{List}
 use Prim.Native.Nat.{ℕ, _-_, _≤_}
 use native.Mathlib.Omega.{arith}
-use borrow.Author.Tests.{eq-eqb, ne-eqb, leb-true}
-use lib.Dec.{leb}
+use borrow.Author.Tests.{eq-eqb, ne-eqb, le-leb}
 use lib.ListN.{length, take, drop}
-use Rattle.lists.specs.Lists.{pick}
 use Rattle.number.specs.declared.Number.{Number}
 use Rattle.number.specs.Number.{small}
 use Rattle.answer.specs.declared.Answer.{Answer}
@@ -36,6 +33,7 @@ use Rattle.parts.specs.Parts.{bodyOf}
 use Rattle.record.specs.declared.EventMarks.{EventMarks}
 use Rattle.record.specs.declared.StateMarks.{StateMarks}
 use Rattle.record.specs.Marks.{eventOf}
+use Rattle.resume.proofs.Stays.{few-members}
 use Rattle.receive.proofs.Laws.{good-holder}
 use Rattle.fold_record.specs.Folded.{bodyFolded}
 use Rattle.fold_record.specs.Steps.{foldOf, contentFolded, foldedBy}
@@ -61,23 +59,21 @@ abbrev fewList : List Item → Change
 fewList new = record { answer = accepted; list = packed new }
 
 -- "A resulting witness list above 16 is refused (38)."
-few-members : (new : List Item) (r : Change) → r ≡ changeOf new → r .answer .number ≡ 0 → (length new ≤ 16) × (r ≡ fewList new)
-unfolding changeOf
-few-members new r e z = by-test (leb (length new) 16) refl e
-  where
-    by-test : (t : Bool) → leb (length new) 16 ≡ t → r ≡ pick t (fewList new) (record { answer = refused 38 (length new) 0; list = packed [] })
-        → (length new ≤ 16) × (r ≡ fewList new)
-    by-test true l q = (leb-true (length new) 16 l, q)
-    by-test false l q = let n : _≡_ {A = ℕ} 38 0 = sym (ap (λ (x : Change). x .answer .number) q) ∙ z in absurd (omega arith)
-
 module _ (new : List Item) (r : Change) (e : r ≡ changeOf new) (z : r .answer .number ≡ 0) where
+  few : length new ≤ 16
+  few = few-members new (eq-eqb _ 0 (sym (ap (λ (x : Change). x .answer .number) e) ∙ z))
+
+  fits : r ≡ fewList new
+  unfolding changeOf
+  fits = let f : changeOf new ≡ fewList new = rw (le-leb (length new) 16 few) in e ∙ f
+
   pub list-packed : r .list ≡ packed new
-  list-packed = ap (λ (x : Change). x .list) (few-members new r e z .1)
+  list-packed = ap (λ (x : Change). x .list) fits
 
   pub list-few : r .list .count ≤ 16
   list-few =
       let n : r .list .count ≡ length new = ap (λ (x : Items). x .count) list-packed in
-      let h = few-members new r e z .0 in
+      let h = few in
       omega arith
 
 module _ (buf : List ℕ) (used : ℕ) where
@@ -97,7 +93,7 @@ module _ (buf : List ℕ) (used : ℕ) where
     rotation-settled z l el =
         let new = newWitnesses S (e .body) in
         let is : took (rotated S (e .head) (e .body) (r .list)) ≡ rolledWith r =
-        rw (list-packed new r er z) (sym (ap rolledWith (few-members new r er z .1))) in
+        rw (list-packed new r er z) (sym (ap rolledWith (fits new r er z))) in
         el ∙ ap (settledIn buf used) (is ∙ rotation-is)
 
   -- ---- a record's body by its mark

@@ -51,19 +51,19 @@ small-bytes (b ∷ s) f = (f 0, small-bytes s (λ i. f (suc i)))
 
 -- ---- what a scan gave
 module _ (s : List ℕ) where
-  pub content-inception : (m : EventMarks) → Got (inceptionPlaces s 0) m → contentOf 0x4943 s ≡ event (eventOf Inception s m)
+  content-inception : (m : EventMarks) → Got (inceptionPlaces s 0) m → contentOf 0x4943 s ≡ event (eventOf Inception s m)
   unfolding contentOf
   content-inception m g = rw (← inception-value s 0, g .is)
 
-  pub content-rotation : (m : EventMarks) → Got (rotationPlaces s 0) m → contentOf 0x524F s ≡ event (eventOf Rotation s m)
+  content-rotation : (m : EventMarks) → Got (rotationPlaces s 0) m → contentOf 0x524F s ≡ event (eventOf Rotation s m)
   unfolding contentOf
   content-rotation m g = rw (← rotation-value s 0, g .is)
 
-  pub content-interaction : (m : EventMarks) → Got (interactionPlaces s 0) m → contentOf 0x4958 s ≡ event (eventOf Interaction s m)
+  content-interaction : (m : EventMarks) → Got (interactionPlaces s 0) m → contentOf 0x4958 s ≡ event (eventOf Interaction s m)
   unfolding contentOf
   content-interaction m g = rw (← interaction-value s 0, g .is)
 
-  pub content-snapshot : (m : StateMarks) → Got (snapshotPlaces s 0) m → contentOf 0x4B53 s ≡ snapshot (stateOf s m)
+  content-snapshot : (m : StateMarks) → Got (snapshotPlaces s 0) m → contentOf 0x4B53 s ≡ snapshot (stateOf s m)
   unfolding contentOf
   content-snapshot m g = rw (← snapshot-value s 0, g .is)
 
@@ -110,7 +110,7 @@ module _ (buf : List ℕ) (used : ℕ) (s : KeyState) (shape : stateShape s ≡ 
     assembled-state =
         rw (fits-all (looseOf s) point signers last few traits np nl ng, joined-body s point signers last p g l, framed-body s)
 
-    pub written : (x : Loose) → x ≡ looseOf s → (r : Left) → r ≡ afterSaving used accepted (assembled x point signers last buf) → r ≡ settledIn buf used (took s)
+    written : (x : Loose) → x ≡ looseOf s → (r : Left) → r ≡ afterSaving used accepted (assembled x point signers last buf) → r ≡ settledIn buf used (took s)
     unfolding settledIn
     written x ex r er = er ∙ rw (ex, assembled-state, saved-placed s buf shape)
 
@@ -181,7 +181,7 @@ module _ (buf : List ℕ) (used : ℕ) (m : StateMarks) (k : Keeps buf used m) w
   pub state-shape : stateShape (stateAt buf used m) ≡ 0
   state-shape = snapshot-shape (drop 4 (take used buf)) m (k .whole .scanned)
 
-  pub state-bytes : encoded (stateAt buf used m) ≡ take used buf
+  state-bytes : encoded (stateAt buf used m) ≡ take used buf
   state-bytes =
       let w = k .whole in
       let e = snapshot-whole (drop 4 (take used buf)) inner m (w .scanned .next) (w .scanned .is) in
@@ -194,7 +194,7 @@ module _ (buf : List ℕ) (used : ℕ) (m : StateMarks) (k : Keeps buf used m) w
   unfolding over
   state-over = rw (state-bytes, used-long, zero-add) (take-append-drop used buf)
 
-  pub room-87 : 87 ≤ length buf
+  room-87 : 87 ≤ length buf
   room-87 =
       let h = k .within in
       let l = snapshot-last (drop 4 (take used buf)) inner m (k .whole .scanned .next) (k .whole .scanned .is) .room in

@@ -10,7 +10,6 @@ use lib.ListN.{length}
 use borrow.Author.Tests.{le-leb, leb-true, eqb-true}
 use Rattle.lists.specs.Lists.{pick, both, any, filter}
 use Rattle.lists.proofs.Facts.{both-true}
-use Rattle.lists.proofs.Padding.{padded-used}
 use Rattle.number.specs.declared.Number.{Number}
 use Rattle.answer.specs.declared.Answer.{Answer}
 use Rattle.answer.specs.Answer.{accepted, firstRefusal}
@@ -22,8 +21,7 @@ use Rattle.items.proofs.Laws.{listed-packed}
 use Rattle.toad.specs.Toad.{witnessThreshold}
 use Rattle.member_set.specs.declared.Change.{Change}
 use Rattle.member_set.specs.Members.{repeatFrom, absent, witnessFaults, changeFaults, joined, updated, changeOf}
-use Rattle.verification.specs.declared.Siger.{Siger}
-use Rattle.verification.specs.Verification.{signatures, packedSigers, noSiger}
+use Rattle.verification.specs.Verification.{signatures, packedSigers}
 use Rattle.event.specs.declared.Head.{Head}
 use Rattle.event.specs.declared.Ilk.the-variants.{Inception, Rotation, Interaction}
 use Rattle.evidence.specs.declared.Evidence.{Evidence}
@@ -43,6 +41,7 @@ use Rattle.record.specs.declared.TailMarks.{TailMarks}
 use Rattle.record.specs.declared.EventMarks.{EventMarks}
 use Rattle.record.specs.declared.StateMarks.{StateMarks}
 use Rattle.record.specs.Marks.{stateOf, eventOf}
+use Rattle.record.proofs.Laws.{evidence-as}
 use Rattle.judge.specs.Parts.{listAt, thresholdAt, evidenceAt, nextFormAt, startAt, keysAt, witnessesAt, chainsAt, openingAt, rewitnessAt, changedAt}
 
 -- ---- what is not looked at
@@ -79,12 +78,6 @@ then-groups x ys zs =
     (grouped ys (firstRefusal zs ∷ []) ∙ tail-same ys (firstRefusal zs ∷ []) zs (sym (last (firstRefusal zs) (firstRefusal zs) (clean-first zs) refl)))
 
 -- ---- signatures where they stand
-used : (xs : List Siger) → signatures (packedSigers xs) ≡ xs
-used xs = padded-used noSiger 48 xs
-
-evidence-as : (keys next : ℕ) (sigs wigs : List Siger) → evidenceOf keys next sigs wigs ≡ evidenceOf keys next (signatures (packedSigers sigs)) (signatures (packedSigers wigs))
-evidence-as keys next sigs wigs = sym (ap₂ (λ (x y : List Siger). evidenceOf keys next x y) (used sigs) (used wigs))
-
 gathered : (s : List ℕ) (t : TailMarks) (keys next keys' next' : ℕ) (v : Evidence) → v ≡ evidenceAt s t keys next → keys ≡ keys' → next ≡ next'
     → v ≡ evidenceOf keys' next' (signatures (packedSigers (sigersOf s (t .sigs .count) (t .sigs .first)))) (signatures (packedSigers (sigersOf s (t .receipts .count) (t .receipts .first))))
 gathered s t keys next keys' next' v e k n =

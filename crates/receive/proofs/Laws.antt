@@ -1,5 +1,5 @@
 -- From the gate, the scans and the copies to the definition. Assumes nothing.
-use mathlib.Core.Path.{_≡_, refl, sym, _∙_, ap, ap₂}
+use mathlib.Core.Path.{_≡_, refl, sym, _∙_, ap}
 use mathlib.Core.Bool.{Bool, true, false}
 use mathlib.Core.List.{List}
 use Prim.Native.Nat.{ℕ, _+_, _-_, _<_, _≤_}
@@ -9,11 +9,10 @@ use lib.Dec.{eqb}
 use lib.ListN.{length, take, drop}
 use Rattle.lists.specs.Lists.{pick}
 use Rattle.lists.proofs.Facts.{clash}
-use Rattle.lists.proofs.Padding.{padded-used}
 use Rattle.answer.specs.declared.Answer.{Answer}
 use Rattle.answer.specs.Answer.{refused, accepted}
 use Rattle.verification.specs.declared.Siger.{Siger}
-use Rattle.verification.specs.Verification.{signatures, packedSigers, noSiger}
+use Rattle.verification.specs.Verification.{signatures, packedSigers}
 use Rattle.evidence.specs.declared.Evidence.{Evidence}
 use Rattle.evidence.specs.Evidence.{evidenceOf, signedOn, exposedOn, receiptedOn}
 use Rattle.items.specs.Items.{packed}
@@ -31,7 +30,7 @@ use Rattle.rules.specs.Rules.{inception, rotation, interaction, newWitnesses}
 use Rattle.ingest.specs.declared.Offered.{Offered}
 use Rattle.ingest.specs.Judgement.{settled, judgement, onState, onNothing, whereLive, nextAs, nextState, offered, answerTo}
 use Rattle.ingest.proofs.Laws.{stays, good-shape, clean-judgement, incept-lists, rotate-lists, interact-lists}
-use Rattle.format.specs.Parse.{Parse, got, bad}
+use Rattle.format.specs.Parse.{Parse}
 use Rattle.cursor.specs.Spans.{mapped}
 use Rattle.layout.specs.Records.{Content, event, snapshot, refusal, asEvent, asSnapshot, delegated, truncated, firstOf, markOf, bodyLength}
 use Rattle.decoded.specs.Decoded.{Shaped}
@@ -43,6 +42,7 @@ use Rattle.record.specs.Marks.{eventIs, stateIs, eventOf}
 use Rattle.ingest.specs.Judgement.{turnedAway}
 use Rattle.receive.specs.Received.{taken, unlessBad, bodyTaken, firstTaken, received}
 use Rattle.record.specs.Marks.{refusalOfEvent, refusalOfState}
+use Rattle.record.proofs.Laws.{evidence-as}
 use Rattle.receive.specs.Gate.{gateOf, judged, contentJudged}
 
 -- ---- the gate
@@ -128,12 +128,6 @@ module _ (h : Holder) (n : ℕ) where
       stays h (refused n 0 0) _ _ (stops (isHeld h) (mayMove (h .state)) n 8 7 (refused 7 0 0) (refused 8 0 0) en ne) ne
 
 -- ---- signatures where they stand
-used : (xs : List Siger) → signatures (packedSigers xs) ≡ xs
-used xs = padded-used noSiger 48 xs
-
-evidence-as : (keys next : ℕ) (sigs wigs : List Siger) → evidenceOf keys next sigs wigs ≡ evidenceOf keys next (signatures (packedSigers sigs)) (signatures (packedSigers wigs))
-evidence-as keys next sigs wigs = sym (ap₂ (λ (x y : List Siger). evidenceOf keys next x y) (used sigs) (used wigs))
-
 abbrev pub eventWith : Ilk → Head → Body → ℕ → List Siger → List Siger → Event
 eventWith k h b anchors sigs wigs =
     record { ilk = k; head = h; body = b; anchors = anchors; sigs = packedSigers sigs; receipts = packedSigers wigs }

@@ -1,18 +1,19 @@
 -- Records by their places against layout's records by value: scanning a record and copying what stands at its marks is reading
 -- it. Assumes nothing.
-use mathlib.Core.Path.{_≡_, refl, ap, _∙_}
+use mathlib.Core.Path.{_≡_, refl, sym, ap, ap₂, _∙_}
 use mathlib.Core.Bool.{Bool, true, false}
 use mathlib.Core.List.{List}
 use Prim.Native.Nat.{ℕ}
 use lib.Dec.{eqb}
 use lib.ListN.{length}
 use Rattle.lists.specs.Lists.{pick}
+use Rattle.lists.proofs.Padding.{padded-used}
 use Rattle.item.specs.declared.Item.{Item}
 use Rattle.item.specs.declared.Kind.the-variants.{Key, Said}
 use Rattle.verification.specs.declared.Siger.{Siger}
 use Rattle.verification.specs.declared.Sigers.{Sigers}
 use Rattle.verification.specs.declared.Counted.{Counted}
-use Rattle.verification.specs.Verification.{countedOf, packedSigers}
+use Rattle.verification.specs.Verification.{countedOf, signatures, packedSigers, noSiger}
 use Rattle.evidence.specs.Evidence.{evidenceOf}
 use Rattle.event.specs.declared.Ilk.{Ilk}
 use Rattle.event.specs.declared.Ilk.the-variants.{Inception, Rotation, Interaction}
@@ -147,3 +148,10 @@ module _ (s : List ℕ) where
 pub gathered : (keys next : ℕ) (sigs wigs : List Siger) (own seen : Counted) → own ≡ countedOf keys next sigs → seen ≡ countedOf 16 0 wigs
     → record { verified = own .verified; exposed = own .exposed; receipted = seen .verified } ≡ evidenceOf keys next sigs wigs
 gathered keys next sigs wigs own seen p q = rw (p, q)
+
+-- packed and read back
+used : (xs : List Siger) → signatures (packedSigers xs) ≡ xs
+used xs = padded-used noSiger 48 xs
+
+pub evidence-as : (keys next : ℕ) (sigs wigs : List Siger) → evidenceOf keys next sigs wigs ≡ evidenceOf keys next (signatures (packedSigers sigs)) (signatures (packedSigers wigs))
+evidence-as keys next sigs wigs = sym (ap₂ (λ (x y : List Siger). evidenceOf keys next x y) (used sigs) (used wigs))

@@ -50,7 +50,7 @@ use Rattle.resume.proofs.Real.{RealEvent, RealHolder, Raw, real-packed,
 
 -- ---- what an acceptance says
 -- "A resulting witness list above 16 is refused (38)."
-few-members : (xs : List Item) → passes (changeOf xs .answer) ≡ true → length xs ≤ 16
+pub few-members : (xs : List Item) → passes (changeOf xs .answer) ≡ true → length xs ≤ 16
 unfolding changeOf
 few-members xs p = by-test (leb (length xs) 16) refl p
   where

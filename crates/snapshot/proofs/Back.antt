@@ -88,7 +88,8 @@ code-trait : (t : ℕ) → config.isTrait t ≡ true → Unit {0} → Codes trai
 unfolding traitAt
 code-trait t f u = code-last Any byteAt _ (t ∷ []) t t (code-byte t) (code-classed Any (config.isTrait t) t f)
 
-each-byte : (xs : List ℕ) → each (λ x. x ∷ []) xs ≡ xs
+-- each byte of a list, one after another, is the list
+pub each-byte : (xs : List ℕ) → each (λ x. x ∷ []) xs ≡ xs
 unfolding each
 each-byte [] = refl
 each-byte (x ∷ xs) = ap (λ (ys : List ℕ). x ∷ ys) (each-byte xs)

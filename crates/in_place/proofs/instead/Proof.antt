@@ -1,5 +1,4 @@
-use mathlib.Core.Path.{_≡_, sym, _∙_, ap}
-use Prim.Native.Nat.{ℕ}
+use mathlib.Core.Path.{sym, _∙_, ap}
 use Rattle.answer.specs.Answer.{refused}
 use Rattle.found.specs.declared.Held.{Held}
 use Rattle.in_place.specs.Steps.{insteadOf}

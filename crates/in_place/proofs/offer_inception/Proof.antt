@@ -1,5 +1,5 @@
 use Rattle.in_place.specs.Calls.{settledIn}
-use mathlib.Core.Path.{_≡_, refl, sym, _∙_, ap}
+use mathlib.Core.Path.{_∙_, ap}
 use Rattle.event.specs.declared.Ilk.the-variants.{Inception}
 use Rattle.record.specs.Marks.{eventOf}
 use Rattle.in_place.proofs.Answers.{judged-nothing, nothing-left, nothing-took}

@@ -1,6 +1,6 @@
 use mathlib.Core.Bool.{true, false}
 use Rattle.answer.specs.declared.Answer.{Answer}
-use mathlib.Core.Path.{_≡_, refl, sym, _∙_, ap}
+use mathlib.Core.Path.{_∙_, ap}
 use borrow.Author.Tests.{not-true, not-false}
 use Rattle.event.specs.declared.Ilk.the-variants.{Interaction}
 use Rattle.record.specs.Marks.{eventOf}

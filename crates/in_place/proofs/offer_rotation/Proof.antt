@@ -1,9 +1,8 @@
 use mathlib.Core.Bool.{true, false}
 use Rattle.answer.specs.declared.Answer.{Answer}
 use Rattle.member_set.specs.declared.Change.{Change}
-use mathlib.Core.Path.{_≡_, refl, sym, _∙_, ap}
+use mathlib.Core.Path.{_∙_, ap}
 use Rattle.items.specs.declared.Items.{Items}
-use Rattle.state.specs.declared.KeyState.{KeyState}
 use Rattle.state.specs.State.{rotated}
 use borrow.Author.Tests.{not-true, not-false}
 use Rattle.event.specs.declared.Ilk.the-variants.{Rotation}
