@@ -253,12 +253,13 @@ fn shapes(rounds: usize) {
 
 /// Rotations that grow in one respect: judged, the least of the rounds.
 fn growth(rounds: usize) {
-    println!("\nGrowth: judging a rotation, nanoseconds, the least of {rounds} rounds.\n");
-    println!("| What grows | how many | ours | Rust |");
-    println!("|---|---|---|---|");
+    println!("\nGrowth: a rotation, nanoseconds, the least of {rounds} rounds.\n");
+    println!("| What grows | how many | judge: ours | Rust | ratio | device's call | Rust's both | ratio |");
+    println!("|---|---|---|---|---|---|---|---|");
     let row = |what: &str, count: usize, size: Size| {
         let t = shape(rounds, Some(size), &rotation(size));
-        println!("| {what} | {count} | {:.0} | {:.0} |", t[2].least, t[3].least);
+        let (judge, call) = (t[2].least / t[3].least, t[6].least / t[5].least);
+        println!("| {what} | {count} | {:.0} | {:.0} | {judge:.2} | {:.0} | {:.0} | {call:.2} |", t[2].least, t[3].least, t[6].least, t[5].least);
     };
     for n in [1, 6, 12, 24, 48] {
         row("signatures (1 key)", n, Size { signatures: n, ..ONE });
