@@ -1,4 +1,4 @@
--- Steps on the way to what a call leaves, where the state lies in the buffer's bytes. proofs/Laws has that they lead to Calls.
+-- Steps on the way to what a call leaves, where the state lies in the buffer's bytes. proofs/Answers and proofs/Folds have that they lead to Calls.
 use Prim.Native.Nat.{ℕ, _≤_}
 use mathlib.Core.List.{List}
 use lib.ListN.{length, take, drop}
