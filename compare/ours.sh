@@ -10,7 +10,7 @@ command_of() {
 
 # Proves and builds our programs, if that is still to do.
 prove_ours() {
-    (cd "$top" && rt check beside ${keyreport:+keyreport}) >"$work/prove.log" 2>&1 || {
+    (cd "$top" && . tools/kit.sh && rt check beside ${keyreport:+keyreport}) >"$work/prove.log" 2>&1 || {
         tail -n 20 "$work/prove.log" >&2
         die "our programs are not proved"
     }

@@ -31,7 +31,7 @@ use Rattle.threshold_field.specs.ThresholdField.{totalAt, passAt, simpleMarks, 
 use Rattle.snapshot.specs.Bytes.{be, wordsBytes, itemBytes, each, itemsBytes, counted, configBytes, weightBytes, thresholdBytes, flagByte}
 use Rattle.snapshot.proofs.Laws.{simple-bytes, weighted-bytes}
 use Rattle.snapshot.proofs.Back.{each-byte}
-use Rattle.resume.specs.Resume.{Bytes}
+use Rattle.canonical.specs.Bytes.{Bytes}
 use Rattle.canonical.specs.Canonical.{Run}
 
 -- ---- readings

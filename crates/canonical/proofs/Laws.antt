@@ -37,7 +37,7 @@ use Rattle.record.specs.declared.StateMarks.{StateMarks}
 use Rattle.record.specs.Marks.{tailPlaces, inceptionPlaces, rotationPlaces, interactionPlaces, lastPlaces, snapshotPlaces, stateOf}
 use Rattle.snapshot.specs.Bytes.{be, wordsBytes, itemBytes, itemsBytes, configBytes, thresholdBytes, flagByte}
 use Rattle.snapshot.specs.Saved.{pointBytes, groupBytes, headBytes, tailBytes, bodyBytes}
-use Rattle.resume.specs.Resume.{Bytes}
+use Rattle.canonical.specs.Bytes.{Bytes}
 use Rattle.canonical.specs.Canonical.{Run, quorumBytes, signersBytes, Point, Signers, Last}
 use Rattle.canonical.proofs.Fields.{Ran, ran-bind, ran-pick, ran-got, run-then, run-taken, Byte, byte-ran, byte-run, Place, place-ran, Flag, flag-ran, Numbered, number-ran, Sequence, sn-ran, Listed, items-ran, Traits, config-ran, Marked, marks-ran}
 

@@ -23,7 +23,7 @@ use Rattle.ingest.specs.Judgement.{turnedAway}
 use Rattle.layout.specs.Records.{Content, refusal, contentOf, firstOf, markOf, bodyLength}
 use Rattle.decoded.proofs.Shapes.{decoded-shape}
 use Rattle.record.specs.declared.StateMarks.{StateMarks}
-use Rattle.resume.specs.Resume.{Bytes}
+use Rattle.canonical.specs.Bytes.{Bytes}
 use Rattle.resume.proofs.Decoded.{bytes-drop, bytes-take}
 use Rattle.found.specs.declared.Read as R
 use Rattle.found.specs.declared.First as F

@@ -30,7 +30,7 @@ use Rattle.snapshot.specs.Bytes.{over}
 use Rattle.snapshot.specs.Saved.{bodyBytes, encoded, saved}
 use Rattle.snapshot.proofs.Size.{record-size}
 use Rattle.receive.specs.Received.{taken, unlessBad, firstTaken, received}
-use Rattle.resume.specs.Resume.{Bytes}
+use Rattle.canonical.specs.Bytes.{Bytes}
 use Rattle.resume.proofs.Real.{Real}
 use Rattle.resume.proofs.Decoded.{bytes-take, decoded-real}
 use Rattle.resume.proofs.Stays.{good-folds, real-folds}

@@ -29,7 +29,7 @@ use Rattle.record.specs.declared.EventMarks.{EventMarks}
 use Rattle.record.specs.declared.StateMarks.{StateMarks}
 use Rattle.record.specs.Marks.{inceptionPlaces, rotationPlaces, interactionPlaces, snapshotPlaces, stateOf, eventOf}
 use Rattle.record.proofs.Laws.{inception-value, rotation-value, interaction-value, snapshot-value}
-use Rattle.resume.specs.Resume.{Bytes}
+use Rattle.canonical.specs.Bytes.{Bytes}
 use Rattle.resume.proofs.Decoded.{bytes-drop}
 use Rattle.resume.proofs.Theorems.{Sound, sound-snapshot}
 use Rattle.resume.proofs.Stays.{begun-shape, rotated-shape, stepped-shape}

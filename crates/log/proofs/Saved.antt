@@ -21,7 +21,7 @@ use Rattle.decoded.proofs.Shapes.{decoded-shape}
 use Rattle.decoded.proofs.Gives.{Each}
 use Rattle.layout.specs.Records.{Content, event, snapshot, refusal, contentOf, First, record-of, truncated, firstOf, markOf, bodyLength}
 use Rattle.snapshot.specs.Saved.{encoded}
-use Rattle.resume.specs.Resume.{Bytes}
+use Rattle.canonical.specs.Bytes.{Bytes}
 use Rattle.resume.proofs.Real.{Real}
 use Rattle.resume.proofs.Decoded.{decoded-real, bytes-drop}
 use Rattle.resume.proofs.Stays.{good-stays, real-stays, holding-shape}

@@ -34,7 +34,7 @@ use Rattle.layout.specs.Records.{Content, event, refusal, asEvent, asSnapshot, 
 use Rattle.snapshot.proofs.Real.{Words, RealItems, RealThreshold, RealState}
 use Rattle.decoded.proofs.Gives.{Outcome, Gives, Some, Many, Few, outcome-pick, gives-then, gives-got, gives-bad, gives-classed, gives-ended, gives-byte, gives-many, gives-list}
 use Rattle.decoded.proofs.Shapes.{Trait, Latest, GoodSigers, Clauses, gives-trait, gives-flag, gives-latest, gives-clauses, gives-sigers}
-use Rattle.resume.specs.Resume.{Bytes}
+use Rattle.canonical.specs.Bytes.{Bytes}
 use Rattle.resume.proofs.Real.{RealHead, RealBody, RealEvent, Real, Raw, RealWeight, real-packed, real-simple, real-weighted, real-no-head, real-no-body}
 
 -- ---- parts of byte strings

@@ -24,7 +24,7 @@ use Rattle.snapshot.proofs.Longest.{longest-real}
 use Rattle.snapshot.proofs.Whole.{read-back-real}
 use Rattle.decoded.specs.Decoded.{Shaped}
 use Rattle.decoded.proofs.Shapes.{decoded-shape}
-use Rattle.resume.specs.Resume.{Bytes}
+use Rattle.canonical.specs.Bytes.{Bytes}
 use Rattle.resume.proofs.Real.{RealHolder, Real}
 use Rattle.resume.proofs.Decoded.{bytes-take, bytes-drop, decoded-real}
 use Rattle.resume.proofs.Stays.{holding-shape, good-stays, real-stays}
