@@ -96,7 +96,7 @@ function look(    crate) {
     sub(/\/src\/.*/, "", crate)
     sub(/.*\//, "", crate)
     if (index(all, "/*")) print file ": has a /* comment, which this does not read"
-    while (match(all, /[^A-Za-z0-9_]pub +(extern +"" +)?fn +/)) {
+    while (match(all, /[^A-Za-z0-9_]pub +(([a-z]+|"") +)*fn +/)) {
         all = substr(all, RSTART + 1)
         one(crate)
     }
@@ -116,8 +116,8 @@ FNR == 1 {
 }
 {
     # neither a string nor a byte nor a comment is code
-    gsub(/b?"([^"\\]|\\.)*"/, "\"\"")
     gsub(/b'([^'\\]|\\[^x]|\\x[0-9a-fA-F][0-9a-fA-F])'/, "0")
+    gsub(/b?"([^"\\]|\\.)*"/, "\"\"")
     sub(/\/\/.*/, "")
     all = all $0 " "
 }
