@@ -1,6 +1,6 @@
 -- What the checked path leaves: a refusal touches nothing, an acceptance saves the next state. Assumes nothing.
 --     live-.., closed-left, away-left, nothing-..    an event, by where the holder stands
---     offer-first, offer-short    from the body's answer to the call's
+--     offer-body, offer-first, offer-short    from the body's answer to the call's
 use mathlib.Core.Path.{_≡_, refl, sym, _∙_, ap}
 use mathlib.Core.Bool.{Bool, true, false}
 use mathlib.Core.List.{List, []}
@@ -23,18 +23,18 @@ use Rattle.shape.specs.State.{holderShape}
 use Rattle.rules.specs.Rules.{inception, rotation, interaction, newWitnesses, changed}
 use Rattle.ingest.specs.Judgement.{settled, turnedAway, judgement, onState as heldAnswer, onNothing, whereLive, nextAs, nextState, incepted, rotates, interacts}
 use Rattle.history.proofs.Steps.{seed-is-genesis}
-use Rattle.layout.specs.Records.{snapshot, contentOf, First, record-of, truncated, firstOf}
+use Rattle.layout.specs.Records.{Content, snapshot, contentOf, First, record-of, truncated, firstOf}
 use Rattle.decoded.proofs.Shapes.{decoded-shape}
 use Rattle.receive.specs.Gate.{judged, contentJudged}
-use Rattle.receive.specs.Received.{taken, firstTaken, received}
+use Rattle.receive.specs.Received.{taken, unlessBad, bodyTaken, firstTaken, received}
 use Rattle.receive.proofs.Laws.{good-holder, judged-taken}
 use Rattle.resume.proofs.Stays.{few-witnesses}
 use Rattle.found.specs.declared.Held as H
 use Rattle.found.specs.Kept.{keptIn}
 use Rattle.found.specs.Found.{Framed, Room, keptIs}
-use Rattle.in_place.specs.Calls.{Left, settledIn, onState, offeredIn}
-use Rattle.in_place.specs.Steps.{left, took, insteadOf}
-use Rattle.in_place.proofs.Held.{refusal-left, on-state, instead-left}
+use Rattle.in_place.specs.Calls.{Left, settledIn, onState, bodyOfferedIn, offeredIn}
+use Rattle.in_place.specs.Steps.{left, took, insteadOf, deciding}
+use Rattle.in_place.proofs.Held.{refusal-left, on-state, instead-left, enough-decides}
 
 -- ---- an acceptance
 module _ (buf : List ℕ) (used : ℕ) where
@@ -146,18 +146,18 @@ module _ (buf : List ℕ) (used : ℕ) (s k : KeyState) where
 
 -- ---- from what the body gets to what the call leaves
 module _ (buf : List ℕ) (used : ℕ) (x : H.Held) (kept : keptIs (take used buf) x ≡ keptIn buf used) (fr : Framed (take used buf) x) (rm : Room used (length buf) x) (s : List ℕ) where
-  pub offer-first : (mark next : ℕ) → record-of mark (contentOf mark (take (next - 4) (drop 4 s))) next ≡ firstOf s → {l : Left}
-      → l ≡ onState buf used (λ h. contentJudged h (contentOf mark (take (next - 4) (drop 4 s)))) (keptIs (take used buf) x)
-      → l ≡ offeredIn buf used s
-  unfolding offeredIn received
-  offer-first mark next first p =
-      on-state buf used x kept fr rm (λ h. received h s .offered) (λ h. contentJudged h (contentOf mark (take (next - 4) (drop 4 s)))) same p
+  pub offer-body : (mark n : ℕ) → n ≡ deciding (length s) → {l : Left}
+      → l ≡ onState buf used (λ h. contentJudged h (contentOf mark (take (n - 0) (drop 0 s)))) (keptIs (take used buf) x)
+      → l ≡ bodyOfferedIn buf used mark s
+  unfolding bodyOfferedIn bodyTaken
+  offer-body mark n en p =
+      on-state buf used x kept fr rm (λ h. unlessBad h (taken h (contentOf mark s))) (λ h. contentJudged h (contentOf mark (take (n - 0) (drop 0 s)))) same p
     where
-      same : (h : Holder) → holderShape h ≡ 0 → contentJudged h (contentOf mark (take (next - 4) (drop 4 s))) ≡ received h s .offered
+      same : (h : Holder) → holderShape h ≡ 0 → contentJudged h (contentOf mark (take (n - 0) (drop 0 s))) ≡ unlessBad h (taken h (contentOf mark s))
       same h z =
-          judged-taken h 0 (sym z) refl (contentOf mark (take (next - 4) (drop 4 s))) (decoded-shape mark (take (next - 4) (drop 4 s)))
-          ∙ good-holder h 0 (sym z) (taken h (contentOf mark (take (next - 4) (drop 4 s)))) refl
-          ∙ ap (λ (y : First). firstTaken h (length s) y .offered) first
+          ap (λ (c : Content). contentJudged h c) (enough-decides s n en mark)
+          ∙ judged-taken h 0 (sym z) refl (contentOf mark s) (decoded-shape mark s)
+          ∙ good-holder h 0 (sym z) (taken h (contentOf mark s)) refl
 
   pub offer-short : truncated ≡ firstOf s → {a : Answer} → a ≡ refused (insteadOf x 1) 0 0 → left a buf used ≡ offeredIn buf used s
   unfolding offeredIn received
@@ -165,3 +165,9 @@ module _ (buf : List ℕ) (used : ℕ) (x : H.Held) (kept : keptIs (take used bu
     where
       same : (h : Holder) → holderShape h ≡ 0 → turnedAway h 1 ≡ received h s .offered
       same h z = good-holder h 0 (sym z) (turnedAway h 1) refl ∙ ap (λ (y : First). firstTaken h (length s) y .offered) first
+
+-- the first record gets what its body gets
+pub offer-first : (buf : List ℕ) (used : ℕ) (s : List ℕ) (mark next : ℕ) → record-of mark (contentOf mark (take (next - 4) (drop 4 s))) next ≡ firstOf s
+    → bodyOfferedIn buf used mark (take (next - 4) (drop 4 s)) ≡ offeredIn buf used s
+unfolding offeredIn bodyOfferedIn bodyTaken received
+offer-first buf used s mark next first = ap (λ (y : First). onState buf used (λ h. firstTaken h (length s) y .offered) (keptIn buf used)) first

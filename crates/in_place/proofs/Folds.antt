@@ -1,7 +1,7 @@
 -- What the unchecked fold of a record leaves, by what was read of the state and of the record. Assumes nothing.
 --     ..-settled      what a fold's step left is what settling the folded content leaves
 --     held-..         a state that was read from the used bytes
---     first-..        the first record of the input
+--     body-.., first-..    a body, and the first record of the input
 use mathlib.Core.Path.{_≡_, refl, sym, _∙_, ap}
 use mathlib.Core.List.{List}
 use Prim.Native.Nat.{ℕ, _-_, _≤_}
@@ -28,7 +28,7 @@ use Rattle.shape.specs.State.{holderShape}
 use Rattle.rules.specs.Rules.{newWitnesses}
 use Rattle.ingest.specs.declared.Offered.{Offered}
 use Rattle.ingest.specs.Judgement.{settled, turnedAway}
-use Rattle.layout.specs.Records.{First, contentOf, record-of, truncated, firstOf}
+use Rattle.layout.specs.Records.{Content, First, contentOf, record-of, truncated, firstOf}
 use Rattle.parts.specs.Parts.{bodyOf}
 use Rattle.record.specs.declared.EventMarks.{EventMarks}
 use Rattle.record.specs.declared.StateMarks.{StateMarks}
@@ -42,9 +42,9 @@ use Rattle.found.specs.declared.Read as R
 use Rattle.found.specs.declared.Held as H
 use Rattle.found.specs.Kept.{stateIn, keptIn}
 use Rattle.found.specs.Found.{contentIs, keptIs, Framed, Room}
-use Rattle.in_place.specs.Calls.{Left, settledIn, onState, foldedFirst, foldedIn, asked}
-use Rattle.in_place.specs.Steps.{stateAt, left, took, insteadOf}
-use Rattle.in_place.proofs.Held.{run, refusal-left, turned-left, read-answer, on-state, instead-left}
+use Rattle.in_place.specs.Calls.{Left, settledIn, onState, foldedFirst, bodyFoldedIn, foldedIn, asked}
+use Rattle.in_place.specs.Steps.{stateAt, left, took, insteadOf, deciding}
+use Rattle.in_place.proofs.Held.{run, refusal-left, turned-left, read-answer, on-state, instead-left, enough-decides}
 
 -- ---- the new list of witnesses
 pub list-folded : (buf : List ℕ) (used : ℕ) (sm : StateMarks) (s : List ℕ) (m : EventMarks) (current cuts adds : Items) (r : Change)
@@ -121,7 +121,7 @@ module _ (buf : List ℕ) (used : ℕ) where
   unfolding isHeld
   interaction-settled S e l el = el
 
--- ---- the first record
+-- ---- from what the body gets to what the call leaves
 module _ (buf : List ℕ) (used : ℕ) (x : H.Held) (kept : keptIs (take used buf) x ≡ keptIn buf used) (fr : Framed (take used buf) x) (rm : Room used (length buf) x) (s : List ℕ) where
   -- "1 ends the input"
   pub first-short : truncated ≡ firstOf s → {a : Answer} → a ≡ refused (insteadOf x 1) 0 0 → left a buf used ≡ foldedIn buf used s
@@ -131,28 +131,34 @@ module _ (buf : List ℕ) (used : ℕ) (x : H.Held) (kept : keptIs (take used bu
       same : (h : Holder) → holderShape h ≡ 0 → turnedAway h 1 ≡ foldedFirst h (firstOf s)
       same h z = good-holder h 0 (sym z) (turnedAway h 1) refl ∙ ap (λ (y : First). foldedFirst h y) first
 
-  module _ (mark next : ℕ) (first : record-of mark (contentOf mark (take (next - 4) (drop 4 s))) next ≡ firstOf s) where
-    abbrev body : List ℕ
-    body = take (next - 4) (drop 4 s)
-
-    by-mark : (h : Holder) → holderShape h ≡ 0 → foldedBy h mark body ≡ foldedFirst h (firstOf s)
-    unfolding bodyFolded
-    by-mark h z = good-before h 0 (sym z) refl mark body ∙ ap (λ (y : First). foldedFirst h y) first
-
+  module _ (mark : ℕ) where
     -- "a KS is none"
-    pub first-snapshot : mark ≡ 0x4B53 → {a : Answer} → a ≡ refused (insteadOf x 2) 0 0 → left a buf used ≡ foldedIn buf used s
-    unfolding foldedIn foldedBy
-    first-snapshot ks ea = instead-left buf used x kept fr rm (λ h. foldedFirst h (firstOf s)) 2 (λ z. absurd (omega arith)) same ea
+    pub body-snapshot : mark ≡ 0x4B53 → {a : Answer} → a ≡ refused (insteadOf x 2) 0 0 → left a buf used ≡ bodyFoldedIn buf used mark s
+    unfolding bodyFoldedIn foldedBy
+    body-snapshot ks ea = instead-left buf used x kept fr rm (λ h. bodyFolded h mark s) 2 (λ z. absurd (omega arith)) same ea
       where
-        same : (h : Holder) → holderShape h ≡ 0 → turnedAway h 2 ≡ foldedFirst h (firstOf s)
-        same h z = let e : turnedAway h 2 ≡ foldedBy h mark body = rw (eq-eqb mark 0x4B53 ks) in e ∙ by-mark h z
+        same : (h : Holder) → holderShape h ≡ 0 → turnedAway h 2 ≡ bodyFolded h mark s
+        same h z =
+            let e : turnedAway h 2 ≡ foldedBy h mark s = rw (eq-eqb mark 0x4B53 ks) in
+            e ∙ good-before h 0 (sym z) refl mark s
 
-    pub first-folded : (mark ≡ 0x4B53 → ⊥) → {l : Left} → l ≡ onState buf used (λ h. contentFolded h (contentOf mark body)) (keptIs (take used buf) x) → l ≡ foldedIn buf used s
-    unfolding foldedIn foldedBy
-    first-folded ne p = on-state buf used x kept fr rm (λ h. foldedFirst h (firstOf s)) (λ h. contentFolded h (contentOf mark body)) same p
+    pub body-folded : (mark ≡ 0x4B53 → ⊥) → (n : ℕ) → n ≡ deciding (length s) → {l : Left}
+        → l ≡ onState buf used (λ h. contentFolded h (contentOf mark (take (n - 0) (drop 0 s)))) (keptIs (take used buf) x)
+        → l ≡ bodyFoldedIn buf used mark s
+    unfolding bodyFoldedIn foldedBy
+    body-folded ne n en p =
+        on-state buf used x kept fr rm (λ h. bodyFolded h mark s) (λ h. contentFolded h (contentOf mark (take (n - 0) (drop 0 s)))) same p
       where
-        same : (h : Holder) → holderShape h ≡ 0 → contentFolded h (contentOf mark body) ≡ foldedFirst h (firstOf s)
-        same h z = let e : contentFolded h (contentOf mark body) ≡ foldedBy h mark body = rw (ne-eqb mark 0x4B53 ne) in e ∙ by-mark h z
+        same : (h : Holder) → holderShape h ≡ 0 → contentFolded h (contentOf mark (take (n - 0) (drop 0 s))) ≡ bodyFolded h mark s
+        same h z =
+            let e : contentFolded h (contentOf mark s) ≡ foldedBy h mark s = rw (ne-eqb mark 0x4B53 ne) in
+            ap (λ (c : Content). contentFolded h c) (enough-decides s n en mark) ∙ e ∙ good-before h 0 (sym z) refl mark s
+
+-- the first record gets what its body gets
+pub fold-first : (buf : List ℕ) (used : ℕ) (s : List ℕ) (mark next : ℕ) → record-of mark (contentOf mark (take (next - 4) (drop 4 s))) next ≡ firstOf s
+    → bodyFoldedIn buf used mark (take (next - 4) (drop 4 s)) ≡ foldedIn buf used s
+unfolding foldedIn bodyFoldedIn bodyFolded
+fold-first buf used s mark next first = ap (λ (y : First). onState buf used (λ h. foldedFirst h y) (keptIn buf used)) first
 
 -- ---- ask
 module _ (s : List ℕ) {x : H.Held} (is : keptIs s x ≡ stateIn s) where

@@ -3,15 +3,18 @@
 --     refusal-left, turned-left       a refusal touches nothing
 --     read-.., unread-left, placed-as a body as it was read
 --     held-.., instead-left, on-state what is held
---     first-body, each-of             the first record's body; the parts of what is left
+--     enough-..                       how much of a body is looked at
+--     each-of, each-as                the parts of what is left
 use mathlib.Core.Path.{_≡_, refl, sym, _∙_, ap, subst}
 use mathlib.Core.List.{List, [], _∷_}
-use Prim.Native.Nat.{ℕ, zero, suc, _+_, _-_, _*_, _<_, _≤_}
+use mathlib.Core.Bool.{Bool, true, false}
+use Prim.Native.Nat.{ℕ, zero, suc, _-_, _<_, _≤_}
 use native.Mathlib.Omega.{arith}
 use native.Mathlib.Nat.{sub-zero}
-use borrow.Author.Tests.{ne-eqb}
-use lib.Dec.{eqb}
-use lib.ListN.{length, take, drop, getD, length-take}
+use borrow.Author.Tests.{ne-eqb, lt-ltb, le-ltb, ltb-true, ltb-false}
+use lib.Dec.{eqb, ltb}
+use lib.ListN.{length, take, drop, length-take}
+use lib.Seq.{take-length}
 use Rattle.lists.specs.Lists.{pick}
 use Rattle.answer.specs.declared.Answer.{Answer}
 use Rattle.answer.specs.Answer.{refused}
@@ -20,19 +23,18 @@ use Rattle.state.specs.State.{isHeld}
 use Rattle.shape.specs.State.{holderShape}
 use Rattle.ingest.specs.declared.Offered.{Offered}
 use Rattle.ingest.specs.Judgement.{turnedAway}
-use Rattle.layout.specs.Records.{Content, refusal, contentOf, firstOf, markOf, bodyLength}
+use Rattle.layout.specs.Records.{Content, refusal, contentOf}
+use Rattle.decoded.proofs.Bound.{first-bytes}
 use Rattle.decoded.proofs.Shapes.{decoded-shape}
 use Rattle.record.specs.declared.StateMarks.{StateMarks}
 use Rattle.canonical.specs.Bytes.{Bytes}
-use Rattle.resume.proofs.Decoded.{bytes-drop, bytes-take}
+use Rattle.resume.proofs.Decoded.{bytes-take}
 use Rattle.found.specs.declared.Read as R
-use Rattle.found.specs.declared.First as F
 use Rattle.found.specs.declared.Held as H
 use Rattle.found.specs.Kept.{Kept, keptIn}
-use Rattle.found.specs.Found.{contentIs, Placed, firstIs, Within, Small, keptIs, Framed, Room}
-use Rattle.found.proofs.Laws.{first-is, first-within, first-told}
+use Rattle.found.specs.Found.{contentIs, Placed, Small, keptIs, Framed, Room}
 use Rattle.in_place.specs.Calls.{Left, settledIn, onState}
-use Rattle.in_place.specs.Steps.{Body, Keeps, left, insteadOf}
+use Rattle.in_place.specs.Steps.{Body, Keeps, left, insteadOf, deciding}
 use Rattle.in_place.proofs.Written.{small-bytes, state-shape}
 
 -- ---- a run of the used bytes
@@ -117,22 +119,51 @@ module _ (buf : List ℕ) (used : ℕ) where
 pub placed-as : (s : List ℕ) {x : R.Read} (y : R.Read) → x ≡ y → Placed s x → Placed s y
 placed-as s y told p = subst (Placed s) told p
 
--- ---- "a u16 body length"
+-- ---- how much of a body is looked at
+few : (n : ℕ) → (deciding n ≤ n) × (deciding n ≤ 10086)
+unfolding deciding
+few n = by-test (ltb n 10086) refl
+  where
+    by-test : (t : Bool) → ltb n 10086 ≡ t → (pick t n 10086 ≤ n) × (pick t n 10086 ≤ 10086)
+    by-test true e = let p = ltb-true n 10086 e in (omega arith, omega arith)
+    by-test false e = let p = ltb-false n 10086 e in (p, omega arith)
+
+pub enough-short : (n : ℕ) → n < 10086 → n ≡ deciding n
+unfolding deciding
+enough-short n h = rw (lt-ltb n 10086 h)
+
+pub enough-long : (n : ℕ) → 10086 ≤ n → 10086 ≡ deciding n
+unfolding deciding
+enough-long n h = rw (le-ltb n 10086 h)
+
+pub enough-within : (n m : ℕ) → m ≡ deciding n → m ≤ n
+enough-within n m e = rw e (few n .0)
+
 bytes-small : (s : List ℕ) → Bytes s → Small s
 bytes-small [] b i = omega arith
 bytes-small (x ∷ s) b zero = b .0
 bytes-small (x ∷ s) b (suc i) = bytes-small s (b .1) i
 
-pub first-body : (s : List ℕ) {x : F.First} (mark next : ℕ) → x ≡ F.the-variants.Of mark next → Within s x → firstIs s x ≡ firstOf s → Body (take (next - 4) (drop 4 s))
-first-body s mark next told within is =
-    let frame : (mark ≡ markOf s) × (next ≡ 4 + bodyLength s) = first-told s mark next _ (first-is s _ told is) in
-    let w : Within s (F.the-variants.Of mark next) = first-within s _ told within in
-    let n : next ≡ 4 + (getD s 2 0 * 256 + getD s 3 0) = frame .1 in
-    let p : getD s 2 0 < 256 = w .1 .1 2 in
-    let q : getD s 3 0 < 256 = w .1 .1 3 in
-    let long : length (take (next - 4) (drop 4 s)) ≤ 65535 = simp length-take (omega arith) in
-    record { long = long; small = bytes-small (take (next - 4) (drop 4 s)) (bytes-take (next - 4) (drop 4 s) (bytes-drop 4 s (small-bytes s (w .1 .1)))) }
+module _ (s : List ℕ) (m : ℕ) (e : m ≡ deciding (length s)) where
+  pub enough-body : Small s → Body (take (m - 0) (drop 0 s))
+  enough-body small =
+      let most : m ≤ 10086 = rw e (few (length s) .1) in
+      let long : length (take (m - 0) (drop 0 s)) ≤ 65535 = simp length-take (omega arith) in
+      record { long = long; small = bytes-small (take (m - 0) (drop 0 s)) (bytes-take (m - 0) (drop 0 s) (small-bytes s small)) }
+
+  -- the bytes that are looked at decide
+  pub enough-decides : (mark : ℕ) → contentOf mark (take (m - 0) (drop 0 s)) ≡ contentOf mark s
+  unfolding deciding
+  enough-decides mark = rw (sub-zero, e) (by-test (ltb (length s) 10086) refl)
+    where
+      by-test : (t : Bool) → ltb (length s) 10086 ≡ t → contentOf mark (take (pick t (length s) 10086) s) ≡ contentOf mark s
+      by-test true p = ap (contentOf mark) (take-length s)
+      by-test false p = first-bytes mark 10086 s (omega arith) (ltb-false (length s) 10086 p)
 
 -- ---- the parts of what is left
 pub each-of : {l x : Left} → l ≡ x → (l .answer ≡ x .answer) × ((l .bytes ≡ x .bytes) × (l .used ≡ x .used))
 each-of e = (ap (λ (y : Left). y .answer) e, (ap (λ (y : Left). y .bytes) e, ap (λ (y : Left). y .used) e))
+
+pub each-as : {x y : Left} → x ≡ y → {a : Answer} {b : List ℕ} {u : ℕ} → (a ≡ x .answer) × ((b ≡ x .bytes) × (u ≡ x .used)) → (a ≡ y .answer) × ((b ≡ y .bytes) × (u ≡ y .used))
+each-as e p =
+    (p .0 ∙ ap (λ (z : Left). z .answer) e, (p .1 .0 ∙ ap (λ (z : Left). z .bytes) e, p .1 .1 ∙ ap (λ (z : Left). z .used) e))

@@ -13,8 +13,8 @@ use Rattle.ingest.specs.declared.Offered.{Offered}
 use Rattle.ingest.specs.Judgement.{turnedAway}
 use Rattle.layout.specs.Records.{First, record-of, truncated, firstOf}
 use Rattle.snapshot.specs.Saved.{saved}
-use Rattle.receive.specs.Received.{unlessBad, received}
-use Rattle.fold_record.specs.Folded.{foldTaken}
+use Rattle.receive.specs.Received.{unlessBad, bodyTaken, received}
+use Rattle.fold_record.specs.Folded.{foldTaken, bodyFolded}
 use Rattle.found.specs.Kept.{Kept, keptIn, stateIn}
 
 -- ---- What a call on a lent state leaves
@@ -44,6 +44,10 @@ onState buf used f k = pick (eqb (k .number) 0) (settledIn buf used (f (k .holde
 unfoldable pub offeredIn : List ℕ → ℕ → List ℕ → Left
 offeredIn buf used s = onState buf used (λ h. received h s .offered) (keptIn buf used)
 
+-- one record's body by its mark, for a reader that holds a record in parts
+unfoldable pub bodyOfferedIn : List ℕ → ℕ → ℕ → List ℕ → Left
+bodyOfferedIn buf used mark body = onState buf used (λ h. bodyTaken h mark body) (keptIn buf used)
+
 -- ---- fold: the first record of a byte string, unchecked. "Events are IC, RO, IX, DI and DR; a KS is none": 2.
 abbrev pub foldedFirst : Holder → First → Offered
 foldedFirst h (record-of mark c next) = unlessBad h (pick (eqb mark 0x4B53) (turnedAway h 2) (foldTaken h c))
@@ -51,6 +55,9 @@ foldedFirst h truncated = unlessBad h (turnedAway h 1)
 
 unfoldable pub foldedIn : List ℕ → ℕ → List ℕ → Left
 foldedIn buf used s = onState buf used (λ h. foldedFirst h (firstOf s)) (keptIn buf used)
+
+unfoldable pub bodyFoldedIn : List ℕ → ℕ → ℕ → List ℕ → Left
+bodyFoldedIn buf used mark body = onState buf used (λ h. bodyFolded h mark body) (keptIn buf used)
 
 -- ---- ask: 0 with the state's number as a; 8, as in saving, where no state is held; 1 to 4 where the bytes hold none
 unfoldable pub asked : List ℕ → Answer

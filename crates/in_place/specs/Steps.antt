@@ -1,7 +1,9 @@
 -- Steps on the way to what a call leaves, where the state lies in the buffer's bytes. proofs/Answers and proofs/Folds have that they lead to Calls.
 use Prim.Native.Nat.{ℕ, _≤_}
 use mathlib.Core.List.{List}
+use lib.Dec.{ltb}
 use lib.ListN.{length, take, drop}
+use Rattle.lists.specs.Lists.{pick}
 use Rattle.answer.specs.declared.Answer.{Answer}
 use Rattle.answer.specs.Answer.{accepted}
 use Rattle.state.specs.declared.KeyState.{KeyState}
@@ -18,6 +20,10 @@ use Rattle.in_place.specs.Calls.{Left}
 pub record Body (s : List ℕ) : Type 0 where
   pub long : length s ≤ 65535
   pub small : Small s
+
+-- how much of a body is looked at: the longest legal one has 10,085 bytes
+unfoldable pub deciding : ℕ → ℕ
+deciding n = pick (ltb n 10086) n 10086
 
 -- the state that the used bytes are the record of
 abbrev pub stateAt : List ℕ → ℕ → StateMarks → KeyState

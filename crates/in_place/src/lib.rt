@@ -19,8 +19,8 @@ ghost use Rattle.receive.specs.Gate.{judged, contentJudged};
 ghost use Rattle.fold_record.specs.Steps.{foldOf, contentFolded};
 ghost use Rattle.snapshot.specs.Assembled.{looseOf, assembled};
 ghost use Rattle.found.specs.Found.{Got, keptIs, Framed, Room};
-ghost use Rattle.in_place.specs.Calls.{afterSaving, settledIn, onState, offeredIn, foldedIn, asked};
-ghost use Rattle.in_place.specs.Steps.{Body, stateAt, Keeps, left, took, insteadOf};
+ghost use Rattle.in_place.specs.Calls.{afterSaving, settledIn, onState, bodyOfferedIn, offeredIn, bodyFoldedIn, foldedIn, asked};
+ghost use Rattle.in_place.specs.Steps.{Body, stateAt, Keeps, left, took, insteadOf, deciding};
 use answer::Answer;
 use authority::Witnessing;
 use found::First;
@@ -31,6 +31,9 @@ use member_set::Change;
 use record::EventMarks;
 use record::StateMarks;
 use snapshot::Loose;
+
+// The longest body of a record has 10,085 bytes (decoded, `first-bytes`).
+const DECIDING: usize = 10086;
 
 // ---- The next state, but for the runs of bytes that it takes over
 
@@ -361,7 +364,7 @@ fn instead(held: Held, which: u8) -> Answer
     }
 }
 
-fn offer_body(state: &mut [u8], used: &mut usize, held: Held, mark: u16, s: &[u8]) -> Answer
+fn offer_to(state: &mut [u8], used: &mut usize, held: Held, mark: u16, s: &[u8]) -> Answer
     requires { ⌜ Framed (take (now used) (now state)) held ⌝ }
     requires { ⌜ Room (now used) (length (now state)) held ⌝ }
     requires { ⌜ Body (now s) ⌝ }
@@ -374,18 +377,37 @@ fn offer_body(state: &mut [u8], used: &mut usize, held: Held, mark: u16, s: &[u8
     }
 }
 
+// How much of a body is looked at: "a body past the longest legal one is decided by its first bytes".
+fn enough(len: usize) -> usize
+    ensures { λ r. ⌜ r ≡ deciding len ⌝ }
+{
+    if len < DECIDING { len } else { DECIDING }
+}
+
+// One record's body, by its mark, is offered to the state in the buffer: for a reader that holds a record in parts.
+pub fn offer_body(state: &mut [u8], used: &mut usize, mark: u16, body: &[u8]) -> Answer
+    ensures { λ r. ⌜ r ≡ bodyOfferedIn (now (state .entry)) (now (used .entry)) mark (now (body .entry)) .answer ⌝ }
+    ensures { λ _. ⌜ now (state .exit) ≡ bodyOfferedIn (now (state .entry)) (now (used .entry)) mark (now (body .entry)) .bytes ⌝ }
+    ensures { λ _. ⌜ now (used .exit) ≡ bodyOfferedIn (now (state .entry)) (now (used .entry)) mark (now (body .entry)) .used ⌝ }
+{
+    let n = *used;
+    let held = found::in_buffer(state, n);
+    let end = enough(body.len());
+    offer_to(state, used, held, mark, &body[0..end])
+}
+
 // The first record of `input` is offered to the state in the buffer; what stands behind that record is not looked at.
 pub fn offer(state: &mut [u8], used: &mut usize, input: &[u8]) -> Answer
     ensures { λ r. ⌜ r ≡ offeredIn (now (state .entry)) (now (used .entry)) (now (input .entry)) .answer ⌝ }
     ensures { λ _. ⌜ now (state .exit) ≡ offeredIn (now (state .entry)) (now (used .entry)) (now (input .entry)) .bytes ⌝ }
     ensures { λ _. ⌜ now (used .exit) ≡ offeredIn (now (state .entry)) (now (used .entry)) (now (input .entry)) .used ⌝ }
 {
-    let n = *used;
-    let held = found::in_buffer(state, n);
     let First::Of(mark, next) = found::first_record(input) else {
+        let n = *used;
+        let held = found::in_buffer(state, n);
         return instead(held, 1);
     };
-    offer_body(state, used, held, mark, &input[4..next])
+    offer_body(state, used, mark, &input[4..next])
 }
 
 // ---- The same without the checks
@@ -461,7 +483,7 @@ fn fold_nothing(state: &mut [u8], used: &mut usize, mark: u16, s: &[u8]) -> Answ
     }
 }
 
-fn fold_body(state: &mut [u8], used: &mut usize, held: Held, mark: u16, s: &[u8]) -> Answer
+fn fold_to(state: &mut [u8], used: &mut usize, held: Held, mark: u16, s: &[u8]) -> Answer
     requires { ⌜ Framed (take (now used) (now state)) held ⌝ }
     requires { ⌜ Room (now used) (length (now state)) held ⌝ }
     requires { ⌜ Body (now s) ⌝ }
@@ -474,22 +496,33 @@ fn fold_body(state: &mut [u8], used: &mut usize, held: Held, mark: u16, s: &[u8]
     }
 }
 
+// One record's body, by its mark. "Events are IC, RO, IX, DI and DR; a KS is none": its body is not read.
+pub fn fold_body(state: &mut [u8], used: &mut usize, mark: u16, body: &[u8]) -> Answer
+    ensures { λ r. ⌜ r ≡ bodyFoldedIn (now (state .entry)) (now (used .entry)) mark (now (body .entry)) .answer ⌝ }
+    ensures { λ _. ⌜ now (state .exit) ≡ bodyFoldedIn (now (state .entry)) (now (used .entry)) mark (now (body .entry)) .bytes ⌝ }
+    ensures { λ _. ⌜ now (used .exit) ≡ bodyFoldedIn (now (state .entry)) (now (used .entry)) mark (now (body .entry)) .used ⌝ }
+{
+    let n = *used;
+    let held = found::in_buffer(state, n);
+    if mark == 0x4B53 {
+        return instead(held, 2);
+    }
+    let end = enough(body.len());
+    fold_to(state, used, held, mark, &body[0..end])
+}
+
 // For a history that was checked before.
 pub fn fold(state: &mut [u8], used: &mut usize, input: &[u8]) -> Answer
     ensures { λ r. ⌜ r ≡ foldedIn (now (state .entry)) (now (used .entry)) (now (input .entry)) .answer ⌝ }
     ensures { λ _. ⌜ now (state .exit) ≡ foldedIn (now (state .entry)) (now (used .entry)) (now (input .entry)) .bytes ⌝ }
     ensures { λ _. ⌜ now (used .exit) ≡ foldedIn (now (state .entry)) (now (used .entry)) (now (input .entry)) .used ⌝ }
 {
-    let n = *used;
-    let held = found::in_buffer(state, n);
     let First::Of(mark, next) = found::first_record(input) else {
+        let n = *used;
+        let held = found::in_buffer(state, n);
         return instead(held, 1);
     };
-    // "Events are IC, RO, IX, DI and DR; a KS is none": its body is not read
-    if mark == 0x4B53 {
-        return instead(held, 2);
-    }
-    fold_body(state, used, held, mark, &input[4..next])
+    fold_body(state, used, mark, &input[4..next])
 }
 
 // 0 with the state's number; 8 where none is held.

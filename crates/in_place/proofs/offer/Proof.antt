@@ -1,14 +1,11 @@
 use Prim.Native.Nat.{_≤_}
 use lib.ListN.{length}
 use Rattle.found.proofs.Laws.{first-is, first-within}
-use Rattle.in_place.proofs.Held.{each-of, first-body}
+use Rattle.in_place.proofs.Held.{each-of, each-as}
 use Rattle.in_place.proofs.Answers.{offer-short, offer-first}
 use borrow.Author.Needs.{needs}
 use Rattle.in_place.proofs.offer.Statement.{statement}
 use Rattle.in_place.proofs.offer.Tie as tie
-
-in-buffer-requires : tie.Need-in-buffer-requires
-in-buffer-requires c κs = search needs
 
 first-record-requires : tie.Need-first-record-requires
 first-record-requires c κs = search needs
@@ -19,6 +16,9 @@ enum-known-mark c = search needs
 enum-told : tie.Need-enum-told
 enum-told c = search needs
 
+in-buffer-requires : tie.Need-in-buffer-requires
+in-buffer-requires c κs = search needs
+
 instead-requires : tie.Need-instead-requires
 instead-requires c κs = search needs
 
@@ -28,53 +28,48 @@ same-length c = search needs
 returns : tie.Need-returns
 returns c =
     let a = c .before .before .before .before .before .before .before .before .before .args in
-    let held = c .before .before .before .before .in-buffer in
-    let first = first-is (a .input .now) _ (c .before .enum-told .given .1) (c .before .before .before .first-record .ensures .0) in
+    let held = c .before .in-buffer in
+    let first = first-is (a .input .now) _ (c .before .before .before .before .enum-told .given .1) (c .before .before .before .before .before .before .first-record .ensures .0) in
     each-of (offer-short (a .state .now) (a .used .now) (held .result) (held .ensures .0) (held .ensures .1 .0) (held .ensures .1 .1) (a .input .now) first (c .instead .ensures))
 
 sub-offer-body : tie.Need-sub-offer-body
 sub-offer-body c =
-    let w = first-within (c .before .before .before .before .before .before .before .before .before .before .before .args .input .now) _ (c .before .before .before .mark .given .1) (c .before .before .before .before .before .first-record .ensures .1) in
+    let w = first-within (c .before .before .before .before .before .before .before .before .args .input .now) _ (c .before .before .before .mark .given .1) (c .before .before .before .before .before .first-record .ensures .1) in
     w .0
 
 part-offer-body-start : tie.Need-part-offer-body-start
 part-offer-body-start c =
-    let w = first-within (c .before .before .before .before .before .before .before .before .before .before .before .args .input .now) _ (c .before .before .before .mark .given .1) (c .before .before .before .before .before .first-record .ensures .1) in
+    let w = first-within (c .before .before .before .before .before .before .before .before .args .input .now) _ (c .before .before .before .mark .given .1) (c .before .before .before .before .before .first-record .ensures .1) in
     let lower : 4 ≤ c .before .before .before .mark .given .0 .1 .0 = w .0 in
     search needs
 
 part-offer-body-end : tie.Need-part-offer-body-end
 part-offer-body-end c =
-    let w = first-within (c .before .before .before .before .before .before .before .before .before .before .before .args .input .now) _ (c .before .before .before .mark .given .1) (c .before .before .before .before .before .first-record .ensures .1) in
-    let upper : c .before .before .before .mark .given .0 .1 .0 ≤ length (c .before .before .before .before .before .before .before .before .before .before .before .args .input .now) = w .1 .0 in
+    let w = first-within (c .before .before .before .before .before .before .before .before .args .input .now) _ (c .before .before .before .mark .given .1) (c .before .before .before .before .before .first-record .ensures .1) in
+    let upper : c .before .before .before .mark .given .0 .1 .0 ≤ length (c .before .before .before .before .before .before .before .before .args .input .now) = w .1 .0 in
     search needs
 
 offer-body-requires : tie.Need-offer-body-requires
-offer-body-requires c κs =
-    let s = c .before .before .before .before .before .before .before .before .before .before .before .before .args .input .now in
-    let k = c .before .before .before .before .before .before .before .in-buffer .ensures in
-    let f = c .before .before .before .before .before .before .first-record .ensures in
-    (k .1 .0, (k .1 .1, first-body s _ _ (c .before .before .before .before .mark .given .1) (f .1) (f .0)))
+offer-body-requires c κs = search needs
 
 same-length-2 : tie.Need-same-length-2
 same-length-2 c = search needs
 
 returns-2 : tie.Need-returns-2
 returns-2 c =
-    let a = c .before .before .before .before .before .before .before .before .before .before .before .before .before .before .before .args in
-    let held = c .before .before .before .before .before .before .before .before .before .before .in-buffer in
+    let a = c .before .before .before .before .before .before .before .before .before .before .before .before .args in
     let given = c .before .before .before .before .before .before .before .mark .given in
     let first = first-is (a .input .now) _ (given .1) (c .before .before .before .before .before .before .before .before .before .first-record .ensures .0) in
-    each-of (offer-first (a .state .now) (a .used .now) (held .result) (held .ensures .0) (held .ensures .1 .0) (held .ensures .1 .1) (a .input .now) (given .0 .0) (given .0 .1 .0) first (c .before .before .offer-body .ensures))
+    each-as (offer-first (a .state .now) (a .used .now) (a .input .now) (given .0 .0) (given .0 .1 .0) first) (c .before .before .offer-body .ensures)
 
 pub offer-spec : {M : Type 1} → statement M
 offer-spec =
     tie.close
     (tie.spec
-    in-buffer-requires
     first-record-requires
     enum-known-mark
     enum-told
+    in-buffer-requires
     instead-requires
     same-length
     returns
