@@ -1,4 +1,5 @@
 -- Big-endian numbers over the width, copied bytes over the length, and lists by their places. Assumes nothing.
+--     pair-                a number of two bytes
 --     num-, byte-, raw-    a number, a byte, a copy: where there is room, and where there is not
 --     runs-, span-         what a loop over a list's fields has read, and has yet to read
 --     list-more            what a loop that fills an array holds after one value more
@@ -13,8 +14,9 @@ use native.Mathlib.Omega.{arith}
 use lib.Dec.{lit<, leb, ltb}
 use lib.ListN.{length, take, drop, getD, set, replicate, length-take, length-drop, drop-of-length-le}
 use lib.Seq.{take-suc, take-take, getD-drop}
-use borrow.Author.Tests.{le-leb, lt-leb, lt-ltb, le-ltb, leb-true, ltb-true}
+use borrow.Author.Tests.{le-leb, lt-leb, lt-ltb, le-ltb, leb-true, leb-false, ltb-true}
 use Rattle.lists.specs.Lists.{pick, padded}
+use Rattle.lists.proofs.Facts.{clash}
 use Rattle.lists.proofs.Padding.{padded-push}
 use Rattle.format.specs.Parse.{Parse, got, bad, bind, byteAt, beFrom, numAt, manyAt, listAt}
 use Rattle.cursor.specs.Cursor.{rawOf}
@@ -53,6 +55,51 @@ module _ (w : ℕ) (s : List ℕ) (at : ℕ) where
   -- what a loop that has read all w bytes holds
   pub num-is : (v i : ℕ) → at + w ≤ length s → i ≡ w → v ≡ beFrom 0 (take i (drop at s)) → got v (at + w) ≡ numAt w s at
   num-is v i h e p = rw (num-got h, p, e)
+
+-- a number of two bytes, where it was read
+pub record Pair (s : List ℕ) (at v n : ℕ) : Type 0 where
+  pub within : at + 2 ≤ length s
+  pub behind : n ≡ at + 2
+  pub is : v ≡ getD s at 0 * 256 + getD s (at + 1) 0
+
+abbrev valueIn : Parse ℕ → ℕ
+valueIn (got v n) = v
+valueIn (bad k) = 0
+
+abbrev placeIn : Parse ℕ → ℕ
+placeIn (got v n) = n
+placeIn (bad k) = 0
+
+abbrev isGot : Parse ℕ → Bool
+isGot (got v n) = true
+isGot (bad k) = false
+
+module _ (s : List ℕ) (at : ℕ) where
+  two-bytes : at + 2 ≤ length s → beFrom 0 (take 2 (drop at s)) ≡ getD s at 0 * 256 + getD s (at + 1) 0
+  unfolding beFrom
+  two-bytes h =
+      let one : beFrom 0 (take 1 (drop at s)) ≡ 0 * 256 + getD s (at + 0) 0 = be-more s at 0 (omega arith) in
+      let two : beFrom 0 (take 2 (drop at s)) ≡ beFrom 0 (take 1 (drop at s)) * 256 + getD s (at + 1) 0 = be-more s at 1 (omega arith) in
+      let z : 0 * 256 + getD s (at + 0) 0 ≡ getD s at 0 = rw (add-zero at) (omega arith) in
+      two ∙ ap (λ (x : ℕ). x * 256 + getD s (at + 1) 0) (one ∙ z)
+
+  pub pair-got : (v n : ℕ) → got v n ≡ numAt 2 s at → Pair s at v n
+  unfolding numAt
+  pair-got v n e = by-test (leb (at + 2) (length s)) refl e
+    where
+      by-test : (t : Bool) → leb (at + 2) (length s) ≡ t → got v n ≡ pick t (got (beFrom 0 (take 2 (drop at s))) (at + 2)) (bad 3) → Pair s at v n
+      by-test true p q =
+          let w = leb-true (at + 2) (length s) p in
+          record { within = w; behind = ap placeIn q; is = ap valueIn q ∙ two-bytes w }
+      by-test false p q = clash (ap isGot q)
+
+  pub pair-short : (k : ℕ) → bad k ≡ numAt 2 s at → length s < at + 2
+  unfolding numAt
+  pair-short k e = by-test (leb (at + 2) (length s)) refl e
+    where
+      by-test : (t : Bool) → leb (at + 2) (length s) ≡ t → bad k ≡ pick t (got (beFrom 0 (take 2 (drop at s))) (at + 2)) (bad 3) → length s < at + 2
+      by-test true p q = clash (sym (ap isGot q))
+      by-test false p q = leb-false (at + 2) (length s) p
 
 module _ (s : List ℕ) (at : ℕ) where
   pub byte-got : at < length s → byteAt s at ≡ got (getD s at 0) (at + 1)

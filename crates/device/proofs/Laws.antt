@@ -10,19 +10,18 @@ use Rattle.answer.specs.declared.Answer.{Answer}
 use Rattle.threshold.specs.declared.Threshold.{Threshold}
 use Rattle.format.specs.Parse.{Parse, bind, ended}
 use Rattle.cursor.specs.Spans.{mapped}
-use Rattle.layout.specs.Records.{First, firstOf}
+use Rattle.layout.specs.Records.{firstOf, nextIn}
 use Rattle.threshold_field.specs.declared.Marks.{Marks}
 use Rattle.threshold_field.specs.declared.Marked as T
 use Rattle.threshold_field.specs.ThresholdField.{markedIs, marksAt, thresholdOf}
 use Rattle.threshold_field.proofs.Laws.{threshold-values}
 use Rattle.attainable.specs.Attainable.{attainableBy, attained}
-use Rattle.log.specs.Log.{nextIn}
 use Rattle.device.specs.Calls.{words, lengthIn, thresholdAlone, attainableRead, attainableIn}
 
 -- ---- how long the first record is
-pub length-of : (s : List ℕ) (x : First) → x ≡ firstOf s → nextIn s x ≡ lengthIn s
+pub length-of : (s : List ℕ) (n : ℕ) → n ≡ nextIn s (firstOf s) → n ≡ lengthIn s
 unfolding lengthIn
-length-of s x e = ap (nextIn s) e
+length-of s n e = e
 
 -- ---- a threshold alone
 module _ (s : List ℕ) (keys : ℕ) (x : T.Marked) (is : markedIs x ≡ marksAt s 0) where

@@ -4,10 +4,9 @@ use mathlib.Core.List.{List, [], _∷_}
 use mathlib.Core.Bool.{false}
 use Rattle.answer.specs.declared.Answer.{Answer}
 use Rattle.threshold.specs.declared.Threshold.{Threshold}
-use Rattle.layout.specs.Records.{firstOf}
+use Rattle.layout.specs.Records.{firstOf, nextIn}
 use Rattle.format.specs.Parse.{Parse, got, bad, _>>=_, ended}
 use Rattle.format.specs.Fields.{thresholdAt}
-use Rattle.log.specs.Log.{nextIn}
 use Rattle.attainable.specs.declared.Attained.{Attained}
 use Rattle.attainable.specs.Attainable.{attainableBy, attained}
 

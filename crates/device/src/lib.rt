@@ -7,7 +7,6 @@ ghost use Rattle.in_place.specs.Calls.{offeredIn, foldedIn, asked};
 ghost use Rattle.device.specs.Calls.{words, lengthIn, attainableIn};
 use answer::Answer;
 use attainable::Attained;
-use found::First;
 use threshold_field::Marked;
 
 // The details as words, the number as the result.
@@ -70,10 +69,7 @@ pub extern "C" fn keystate_ask(state: &[u8], details: &mut [u64; 4]) -> u8
 pub extern "C" fn keystate_length(input: &[u8]) -> usize
     ensures { λ r. ⌜ r ≡ lengthIn (now (input .entry)) ⌝ }
 {
-    match found::first_record(input) {
-        First::Of(_, next) => next,
-        First::Short => input.len(),
-    }
+    found::length(input)
 }
 
 fn no_answer(which: u8) -> Attained

@@ -16,7 +16,8 @@ use Rattle.state.specs.declared.KeyState.{KeyState}
 use Rattle.state.specs.State.{holding}
 use Rattle.format.specs.Parse.{Parse, got, bad}
 use Rattle.cursor.specs.Spans.{mapped}
-use Rattle.layout.specs.Records.{Content, snapshot, refusal, asEvent, asSnapshot, snapshotAt, contentOf, First, record-of, truncated, firstOf, markOf, bodyLength}
+use Rattle.cursor.proofs.Laws.{Pair}
+use Rattle.layout.specs.Records.{Content, snapshot, refusal, asEvent, asSnapshot, snapshotAt, contentOf, First, record-of, truncated, firstOf, nextIn, markOf, bodyLength}
 use Rattle.decoded.specs.Decoded.{Shaped}
 use Rattle.decoded.proofs.Shapes.{decoded-shape}
 use Rattle.record.specs.declared.StateMarks.{StateMarks}
@@ -57,22 +58,39 @@ module _ (s : List ℕ) where
   unfolding firstOf
   first-short p = rw (lt-leb 4 (length s) p)
 
-  module _ (four : 4 ≤ length s) (n : ℕ) (en : n ≡ bodyLength s) where
-    pub first-past : length s - 4 < n → truncated ≡ firstOf s
+  -- mark and length were read, one behind the other
+  module _ (mark at n body : ℕ) (pm : Pair s 0 mark at) (pn : Pair s at n body) where
+    two : at ≡ 2
+    two = pm .behind
+
+    pub behind : body ≡ 4
+    behind = let e = two in let f = pn .behind in omega arith
+
+    pub four : 4 ≤ length s
+    four = let e = two in let f = pn .within in omega arith
+
+    sized : n ≡ bodyLength s
+    sized = rw two at (pn .is)
+
+    pub first-past : length s - body < n → truncated ≡ firstOf s
     unfolding firstOf
     first-past p =
+        let l = four in
+        let e = behind in
         let q : length s < 4 + n = omega arith in
-        rw (le-leb 4 (length s) four, ← en, lt-leb (4 + n) (length s) q)
+        rw (le-leb 4 (length s) four, ← sized, lt-leb (4 + n) (length s) q)
 
-    pub first-mark : n ≤ length s - 4 → (m : ℕ) → m ≡ markOf s → record-of m (contentOf m (take (4 + n - 4) (drop 4 s))) (4 + n) ≡ firstOf s
+    pub first-mark : n ≤ length s - body → record-of mark (contentOf mark (take (body + n - 4) (drop 4 s))) (body + n) ≡ firstOf s
     unfolding firstOf
-    first-mark p m em =
+    first-mark p =
+        let l = four in
+        let e = behind in
         let q : 4 + n ≤ length s = omega arith in
         let k : 4 + n - 4 ≡ n = omega arith in
-        rw (le-leb 4 (length s) four, ← en, le-leb (4 + n) (length s) q, ← em, k)
+        rw (e, le-leb 4 (length s) four, ← sized, le-leb (4 + n) (length s) q, ← pm .is, k)
 
-    pub within : n ≤ length s - 4 → Small s → (4 ≤ 4 + n) × ((4 + n ≤ length s) × Small s)
-    within p small = (omega arith, (omega arith, small))
+    pub within : n ≤ length s - body → Small s → (4 ≤ body + n) × ((body + n ≤ length s) × Small s)
+    within p small = let l = four in let e = behind in (omega arith, (omega arith, small))
 
 -- what the call told
 module _ (s : List ℕ) {x : F.First} (y : F.First) (told : x ≡ y) where
@@ -81,6 +99,10 @@ module _ (s : List ℕ) {x : F.First} (y : F.First) (told : x ≡ y) where
 
   pub first-within : Within s x → Within s y
   first-within w = rw told at w
+
+-- how long it is
+pub length-first : (s : List ℕ) {x : F.First} (y : F.First) → x ≡ y → firstIs s x ≡ firstOf s → nextIn s (firstIs s y) ≡ nextIn s (firstOf s)
+length-first s y told e = ap (λ (z : F.First). nextIn s (firstIs s z)) (sym told) ∙ ap (nextIn s) e
 
 -- a record that is had has the frame's mark and length
 abbrev isRecord : First → Bool
@@ -91,12 +113,12 @@ abbrev markIn : First → ℕ
 markIn (record-of m c n) = m
 markIn truncated = 0
 
-abbrev nextIn : First → ℕ
-nextIn (record-of m c n) = n
-nextIn truncated = 0
+abbrev endIn : First → ℕ
+endIn (record-of m c n) = n
+endIn truncated = 0
 
 frame-told : (b : Bool) (m k n l : ℕ) (c d : Content) → record-of m c n ≡ pick b (record-of k d l) truncated → (m ≡ k) × (n ≡ l)
-frame-told true m k n l c d e = (ap markIn e, ap nextIn e)
+frame-told true m k n l c d e = (ap markIn e, ap endIn e)
 frame-told false m k n l c d e = clash (ap isRecord e)
 
 pub first-told : (s : List ℕ) (m n : ℕ) (c : Content) → record-of m c n ≡ firstOf s → (m ≡ markOf s) × (n ≡ 4 + bodyLength s)

@@ -2,9 +2,10 @@
 ghost use mathlib.Core.Path.{_≡_};
 ghost use Prim.Native.Nat.{_+_, _*_};
 ghost use lib.ListN.{length, take};
-ghost use Rattle.layout.specs.Records.{inceptionAt, rotationAt, interactionAt, snapshotAt, asEvent, asSnapshot, contentOf, firstOf};
+ghost use Rattle.layout.specs.Records.{inceptionAt, rotationAt, interactionAt, snapshotAt, asEvent, asSnapshot, contentOf, firstOf, nextIn};
 ghost use Rattle.found.specs.Kept.{stateIn, keptIn};
 ghost use Rattle.found.specs.Found.{contentIs, Placed, firstIs, Within, keptIs, Framed, Room};
+use cursor::Num16;
 use record::EventMarks;
 use record::EventScan;
 use record::StateMarks;
@@ -98,25 +99,30 @@ pub fn by_mark(mark: u16, s: &[u8]) -> Read
     Read::No(2)
 }
 
-fn pair(x: u8, y: u8) -> u16
-    ensures { λ r. ⌜ r ≡ x * 256 + y ⌝ }
-{
-    (x as u16) * 256 + (y as u16)
-}
-
 pub fn first_record(s: &[u8]) -> First
     ensures { λ r. ⌜ firstIs (now (s .entry)) r ≡ firstOf (now (s .entry)) ⌝ }
     ensures { λ r. ⌜ Within (now (s .entry)) r ⌝ }
 {
-    let len = s.len();
-    if len < 4 {
+    let Num16::Of(mark, at) = cursor::read_u16(s, 0) else {
+        return First::Short;
+    };
+    let Num16::Of(n, body) = cursor::read_u16(s, at) else {
+        return First::Short;
+    };
+    if s.len() - body < n as usize {
         return First::Short;
     }
-    let n = pair(s[2], s[3]) as usize;
-    if len - 4 < n {
-        return First::Short;
+    First::Of(mark, body + n as usize)
+}
+
+// How many bytes the first record takes, refused or not; all of them where it is cut short.
+pub fn length(s: &[u8]) -> usize
+    ensures { λ r. ⌜ r ≡ nextIn (now (s .entry)) (firstOf (now (s .entry))) ⌝ }
+{
+    match first_record(s) {
+        First::Of(_, next) => next,
+        First::Short => s.len(),
     }
-    First::Of(pair(s[0], s[1]), 4 + n)
 }
 
 // What a state's bytes hold. A body's own refusal comes before the 3 of bytes behind its record.

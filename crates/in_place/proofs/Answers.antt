@@ -25,7 +25,7 @@ use Rattle.ingest.specs.Judgement.{settled, turnedAway, judgement, onState as h
 use Rattle.history.proofs.Steps.{seed-is-genesis}
 use Rattle.layout.specs.Records.{Content, snapshot, contentOf, First, record-of, truncated, firstOf}
 use Rattle.decoded.proofs.Shapes.{decoded-shape}
-use Rattle.receive.specs.Gate.{judged, contentJudged}
+use Rattle.receive.specs.Judged.{judged, contentJudged}
 use Rattle.receive.specs.Received.{taken, unlessBad, bodyTaken, firstTaken, received}
 use Rattle.receive.proofs.Laws.{good-holder, judged-taken}
 use Rattle.resume.proofs.Stays.{few-witnesses}

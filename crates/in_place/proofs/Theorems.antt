@@ -29,7 +29,8 @@ use Rattle.decoded.proofs.Shapes.{decoded-shape}
 use Rattle.snapshot.specs.Bytes.{over}
 use Rattle.snapshot.specs.Saved.{bodyBytes, encoded, saved}
 use Rattle.snapshot.proofs.Size.{record-size}
-use Rattle.receive.specs.Received.{taken, unlessBad, firstTaken, received}
+use Rattle.receive.specs.Received.{taken, unlessBad, bodyTaken, firstTaken, received}
+use Rattle.receive.proofs.Laws.{stays-taken, stays-unless}
 use Rattle.canonical.specs.Bytes.{Bytes}
 use Rattle.resume.proofs.Real.{Real}
 use Rattle.resume.proofs.Decoded.{bytes-take, decoded-real}
@@ -37,7 +38,7 @@ use Rattle.resume.proofs.Stays.{good-folds, real-folds}
 use Rattle.resume.proofs.Theorems.{Sound, sound-nothing, body-bytes, sound-event, sound-snapshot, short-record, saves, reads-back}
 use Rattle.fold_record.specs.Folded.{foldTaken}
 use Rattle.found.specs.Kept.{Kept, none, one, alone, snapshotFirst, stateIn, keptIn}
-use Rattle.in_place.specs.Calls.{Left, untouched, afterSaving, settledIn, onState, offeredIn, foldedFirst, foldedIn}
+use Rattle.in_place.specs.Calls.{Left, untouched, afterSaving, settledIn, onState, bodyOfferedIn, offeredIn, foldedFirst, foldedIn}
 
 -- ---- what a record makes of a sound holder is sound, and held where the record was accepted; "Details a and b are 0 unless named"
 record Fine (o : Offered) : Type 0 where
@@ -102,8 +103,8 @@ first-framed : (s : List ℕ) → firstOf s ≡ framed (whole s) s
 unfolding firstOf
 first-framed s = refl
 
-good : (h : Holder) → Sound h → (x : Offered) → unlessBad h x ≡ x
-good h s x = rw (eq-eqb (holderShape h) 0 (s .shape))
+good-as : (h : Holder) → Sound h → (x : Offered) → unlessBad h x ≡ x
+good-as h s x = rw (eq-eqb (holderShape h) 0 (s .shape))
 
 module _ (h : Holder) (sound : Sound h) (s : List ℕ) (bytes : Bytes s) where
   abbrev content : Content
@@ -115,8 +116,8 @@ module _ (h : Holder) (sound : Sound h) (s : List ℕ) (bytes : Bytes s) where
     where
       by-test : (t : Bool) → Fine (firstTaken h (length s) (framed t s) .offered)
       by-test true =
-          rw (good h sound (taken h content)) (fine-taken (markOf s) (take (bodyLength s) (drop 4 s)) (body-bytes s bytes) h sound content refl)
-      by-test false = rw (good h sound (turnedAway h 1)) (away h 1 sound (omega arith))
+          rw (good-as h sound (taken h content)) (fine-taken (markOf s) (take (bodyLength s) (drop 4 s)) (body-bytes s bytes) h sound content refl)
+      by-test false = rw (good-as h sound (turnedAway h 1)) (away h 1 sound (omega arith))
 
   fine-first : Fine (foldedFirst h (firstOf s))
   fine-first = rw first-framed (by-test (whole s))
@@ -126,8 +127,8 @@ module _ (h : Holder) (sound : Sound h) (s : List ℕ) (bytes : Bytes s) where
       by-mark false = fine-folded (markOf s) (take (bodyLength s) (drop 4 s)) (body-bytes s bytes) h sound content refl
 
       by-test : (t : Bool) → Fine (foldedFirst h (framed t s))
-      by-test true = rw (good h sound (pick (eqb (markOf s) 0x4B53) (turnedAway h 2) (foldTaken h content))) (by-mark (eqb (markOf s) 0x4B53))
-      by-test false = rw (good h sound (turnedAway h 1)) (away h 1 sound (omega arith))
+      by-test true = rw (good-as h sound (pick (eqb (markOf s) 0x4B53) (turnedAway h 2) (foldTaken h content))) (by-mark (eqb (markOf s) 0x4B53))
+      by-test false = rw (good-as h sound (turnedAway h 1)) (away h 1 sound (omega arith))
 
 -- ---- what bytes hold is sound
 sound-none : (n : ℕ) → Sound (none n .holder)
@@ -266,6 +267,38 @@ module _ (buf : List ℕ) (used : ℕ) (good : keptIn buf used .number ≡ 0) (f
       let q = short-record after (fine .sound) (fine .held took) in
       omega arith
 
+-- refused or not, where the longest state has room: the buffer goes where the holder goes
+module _ (buf : List ℕ) (used : ℕ) (good : keptIn buf used .number ≡ 0) (large : 2285 ≤ length buf) (f : Holder → Offered) (fine : Fine (f (keptIn buf used .holder))) (stays : passes (f (keptIn buf used .holder) .answer) ≡ false → f (keptIn buf used .holder) .holder ≡ keptIn buf used .holder) where
+  abbrev gets : Offered
+  gets = f (keptIn buf used .holder)
+
+  abbrev call : Left
+  call = onState buf used f (keptIn buf used)
+
+  accepted-on : passes (gets .answer) ≡ true → call ≡ leaves buf (gets .holder)
+  accepted-on took = saved-on buf used good f fine took (enough buf used good f fine took large)
+
+  refused-on : passes (gets .answer) ≡ false → call ≡ untouched buf used (gets .answer)
+  unfolding settledIn
+  refused-on e = rw (eq-eqb (keptIn buf used .number) 0 good, e)
+
+  on-answer : call .answer ≡ gets .answer
+  on-answer = by-test (passes (gets .answer)) refl
+    where
+      by-test : (t : Bool) → passes (gets .answer) ≡ t → call .answer ≡ gets .answer
+      by-test true took = ap (λ (l : Left). l .answer) (accepted-on took) ∙ sym (fine .zero took)
+      by-test false e = ap (λ (l : Left). l .answer) (refused-on e)
+
+  on-kept : keptIn (call .bytes) (call .used) ≡ one (gets .holder)
+  on-kept = by-test (passes (gets .answer)) refl
+    where
+      by-test : (t : Bool) → passes (gets .answer) ≡ t → keptIn (call .bytes) (call .used) ≡ one (gets .holder)
+      by-test true took = found-on buf used good f fine took (enough buf used good f fine took large) call (accepted-on took)
+      by-test false e =
+          ap (λ (l : Left). keptIn (l .bytes) (l .used)) (refused-on e)
+          ∙ ap (λ (n : ℕ). record { number = n; holder = keptIn buf used .holder }) good
+          ∙ ap one (sym (stays e))
+
 abbrev pub made : List ℕ → ℕ → List ℕ → Offered
 made buf used s = received (keptIn buf used .holder) s .offered
 
@@ -314,3 +347,27 @@ module _ (buf : List ℕ) (used : ℕ) (s : List ℕ) (bytes : Bytes buf) (input
 
     pub folded-suffices : 2285 ≤ length buf → size foldedNext ≤ length buf
     folded-suffices p = enough buf used good folds folded-fine took p
+
+-- ---- a body by its mark: what is answered and what is held after it are the definition's, for every body
+module _ (buf : List ℕ) (used mark : ℕ) (body : List ℕ) (bytes : Bytes buf) (input : Bytes body) (good : keptIn buf used .number ≡ 0) (large : 2285 ≤ length buf) where
+  abbrev now : Holder
+  now = keptIn buf used .holder
+
+  abbrev then : Holder → Offered
+  then h = unlessBad h (taken h (contentOf mark body))
+
+  fine-then : Fine (then now)
+  fine-then =
+      let sound = sound-kept buf used bytes in
+      rw (good-as now sound (taken now (contentOf mark body))) (fine-taken mark body input now sound (contentOf mark body) refl)
+
+  stays-then : passes (then now .answer) ≡ false → then now .holder ≡ now
+  stays-then = stays-unless now (taken now (contentOf mark body)) (stays-taken now (contentOf mark body))
+
+  pub body-answer : bodyOfferedIn buf used mark body .answer ≡ bodyTaken now mark body .answer
+  unfolding bodyOfferedIn bodyTaken
+  body-answer = on-answer buf used good large then fine-then stays-then
+
+  pub body-kept : keptIn (bodyOfferedIn buf used mark body .bytes) (bodyOfferedIn buf used mark body .used) ≡ one (bodyTaken now mark body .holder)
+  unfolding bodyOfferedIn bodyTaken
+  body-kept = on-kept buf used good large then fine-then stays-then

@@ -15,7 +15,7 @@ ghost use Rattle.member_set.specs.Members.{changeOf};
 ghost use Rattle.layout.specs.Records.{contentOf, firstOf};
 ghost use Rattle.parts.specs.Parts.{headOf, bodyOf};
 ghost use Rattle.record.specs.Marks.{inceptionPlaces, rotationPlaces, interactionPlaces, snapshotPlaces, stateOf, eventOf};
-ghost use Rattle.receive.specs.Gate.{judged, contentJudged};
+ghost use Rattle.receive.specs.Judged.{judged, contentJudged};
 ghost use Rattle.fold_record.specs.Steps.{foldOf, contentFolded};
 ghost use Rattle.snapshot.specs.Assembled.{looseOf, assembled};
 ghost use Rattle.found.specs.Found.{Got, keptIs, Framed, Room};

@@ -211,3 +211,8 @@ firstOf s =
     pick (both (leb 4 (length s)) (leb (4 + bodyLength s) (length s)))
     (record-of (markOf s) (contentOf (markOf s) (take (bodyLength s) (drop 4 s))) (4 + bodyLength s))
     truncated
+
+-- "Otherwise the length leads to the next record, refused or not": where it starts; where none can be had, the end
+abbrev pub nextIn : List ℕ → First → ℕ
+nextIn s (record-of mark c next) = next
+nextIn s truncated = length s

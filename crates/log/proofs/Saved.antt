@@ -19,7 +19,7 @@ use Rattle.ingest.specs.declared.Offered.{Offered}
 use Rattle.decoded.specs.Decoded.{Shaped}
 use Rattle.decoded.proofs.Shapes.{decoded-shape}
 use Rattle.decoded.proofs.Gives.{Each}
-use Rattle.layout.specs.Records.{Content, event, snapshot, refusal, contentOf, First, record-of, truncated, firstOf, markOf, bodyLength}
+use Rattle.layout.specs.Records.{Content, event, snapshot, refusal, contentOf, First, record-of, truncated, firstOf, nextIn, markOf, bodyLength}
 use Rattle.snapshot.specs.Saved.{encoded}
 use Rattle.canonical.specs.Bytes.{Bytes}
 use Rattle.resume.proofs.Real.{Real}
@@ -28,7 +28,7 @@ use Rattle.resume.proofs.Stays.{good-stays, real-stays, holding-shape}
 use Rattle.resume.proofs.Theorems.{Sound, sound-nothing, body-bytes, reads-back}
 use Rattle.ingest.specs.Judgement.{turnedAway}
 use Rattle.receive.specs.Received.{taken, unlessBad, received}
-use Rattle.log.specs.Log.{nextIn, recordsFrom, recordsOf, after, held, answers}
+use Rattle.log.specs.Log.{recordsFrom, recordsOf, after, held, answers}
 
 -- ---- the records of a byte string are well shaped, with numbers that fit
 abbrev Good : First → Type 0

@@ -24,24 +24,13 @@ use Rattle.history.proofs.Steps.{expects}
 use Rattle.decoded.specs.Decoded.{Shaped}
 use Rattle.decoded.proofs.Shapes.{decoded-shape}
 use Rattle.decoded.proofs.Gives.{Each}
-use Rattle.layout.specs.Records.{Content, event, snapshot, refusal, contentOf, First, record-of, truncated, firstOf, markOf, bodyLength}
+use Rattle.layout.specs.Records.{Content, event, snapshot, refusal, contentOf, First, record-of, truncated, firstOf, nextIn, markOf, bodyLength}
 use Rattle.ingest.specs.Judgement.{turnedAway}
 use Rattle.receive.specs.Received.{taken, unlessBad}
-use Rattle.log.specs.Log.{nextIn, recordsFrom, given, after, answerAt, takes, foldStep, RunsOn}
+use Rattle.receive.proofs.Laws.{stays-taken, stays-unless}
+use Rattle.log.specs.Log.{recordsFrom, given, after, answerAt, takes, foldStep, RunsOn}
 
 -- ---- a refusal leaves the holder as it came
-stays-taken : (h : Holder) (c : Content) → passes (taken h c .answer) ≡ false → taken h c .holder ≡ h
-stays-taken h (event e) p = events.stays h e p
-stays-taken h (snapshot s) p = rw p
-stays-taken h (refusal n) p = refl
-
-stays-unless : (h : Holder) (x : Offered) → (passes (x .answer) ≡ false → x .holder ≡ h) → passes (unlessBad h x .answer) ≡ false → unlessBad h x .holder ≡ h
-stays-unless h x f p = by-test (eqb (holderShape h) 0) p
-  where
-    by-test : (t : Bool) → passes (pick t x (turnedAway h (holderShape h)) .answer) ≡ false → pick t x (turnedAway h (holderShape h)) .holder ≡ h
-    by-test true q = f q
-    by-test false q = refl
-
 pub stays : (h : Holder) (f : First) → takes h f ≡ false → after h f ≡ h
 stays h (record-of mark c next) p = stays-unless h (taken h c) (stays-taken h c) p
 stays h truncated p = stays-unless h (turnedAway h 1) (λ q. refl) p

@@ -13,18 +13,12 @@ use Rattle.state.specs.declared.Holder.{Holder}
 use Rattle.state.specs.State.{holding}
 use Rattle.ingest.specs.declared.Offered.{Offered}
 use Rattle.fold.specs.Fold.{folded}
-use Rattle.layout.specs.Records.{event, snapshot, refusal, First, record-of, truncated, firstOf}
+use Rattle.layout.specs.Records.{event, snapshot, refusal, First, record-of, truncated, firstOf, nextIn}
 use Rattle.receive.specs.Received.{firstTaken}
-use Rattle.log.specs.declared.Walked.{Walked}
 
 -- ---- The records of a byte string
 -- "Fewer than 4 bytes left (but some), or a body past the end, is 1 and ends the input .. Otherwise the length leads to the next
--- record, refused or not."
-abbrev pub nextIn : List ℕ → First → ℕ
-nextIn s (record-of mark c next) = next
-nextIn s truncated = length s
-
--- each takes a byte at least, so as many steps as there are bytes are enough
+-- record, refused or not." Each takes a byte at least, so as many steps as there are bytes are enough
 unfoldable pub recordsFrom : ℕ → List ℕ → List First
 recordsFrom zero s = []
 recordsFrom (suc n) [] = []
@@ -55,15 +49,6 @@ kept h fs = keptOf after takes h fs
 
 abbrev pub answers : Holder → List First → List Answer
 answers h fs = answersOf after answerAt h fs
-
--- the walk over a byte string: what is held in the end, how many records were accepted, and how many there were
-abbrev pub walked : Holder → List ℕ → Walked
-walked h s =
-    record { holder = held h (recordsOf s); accepted = length (kept h (recordsOf s)); offered = length (recordsOf s) }
-
--- the walk so far, with one more record
-abbrev pub countedIn : Walked → Offered → Walked
-countedIn w x = record { holder = x .holder; accepted = w .accepted + pick (passes (x .answer)) 1 0; offered = w .offered + 1 }
 
 -- ---- Demand 3's words on records
 -- the unchecked fold: an event as `folded` has it; a snapshot, which is no event, is where it starts

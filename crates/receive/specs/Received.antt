@@ -11,7 +11,12 @@ use Rattle.shape.specs.State.{holderShape}
 use Rattle.ingest.specs.declared.Offered.{Offered}
 use Rattle.ingest.specs.Judgement.{settled, turnedAway, offered}
 use Rattle.layout.specs.Records.{Content, event, snapshot, refusal, contentOf, First, record-of, truncated, firstOf}
-use Rattle.receive.specs.declared.Received.{Received}
+
+-- what the first record gets, its mark (0 where there is none), and where the next one starts
+pub record Received : Type 0 where
+  pub offered : Offered
+  pub mark : ℕ
+  pub next : ℕ
 
 -- an event gets demand 2's answer; "Empty holder: KS is taken", "Held state: KS 5"; a body that cannot be read gets 2, 3 or 4
 abbrev pub taken : Holder → Content → Offered

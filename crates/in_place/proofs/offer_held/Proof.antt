@@ -4,7 +4,7 @@ use Rattle.event.specs.declared.Ilk.the-variants.{Inception, DelegatedInception
 use Rattle.state.specs.State.{holding}
 use Rattle.layout.specs.Records.{delegated}
 use Rattle.record.specs.Marks.{stateOf, eventOf}
-use Rattle.receive.specs.Gate.{contentJudged}
+use Rattle.receive.specs.Judged.{contentJudged}
 use Rattle.found.specs.declared.Read as R
 use Rattle.in_place.specs.Steps.{stateAt}
 use Rattle.in_place.proofs.Held.{placed-as, read-left, read-answer, unread-left}

@@ -4,7 +4,7 @@ use Rattle.event.specs.declared.Ilk.the-variants.{Rotation, Interaction, Delega
 use Rattle.empty.specs.Empty.{nothing}
 use Rattle.layout.specs.Records.{delegated}
 use Rattle.record.specs.Marks.{stateOf, eventOf}
-use Rattle.receive.specs.Gate.{contentJudged}
+use Rattle.receive.specs.Judged.{contentJudged}
 use Rattle.found.specs.declared.Read as R
 use Rattle.in_place.proofs.Held.{placed-as, read-left, read-answer, unread-left}
 use Rattle.in_place.proofs.Answers.{nothing-away, nothing-snapshot}

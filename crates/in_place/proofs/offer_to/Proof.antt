@@ -1,5 +1,5 @@
 use Rattle.layout.specs.Records.{contentOf}
-use Rattle.receive.specs.Gate.{contentJudged}
+use Rattle.receive.specs.Judged.{contentJudged}
 use Rattle.found.specs.declared.Held as H
 use Rattle.in_place.proofs.Held.{held-keeps, held-told, held-bad}
 use borrow.Author.Needs.{needs}

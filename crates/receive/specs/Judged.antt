@@ -1,18 +1,12 @@
--- Steps on the way to a body's answer, for a holder and a content of good shape. proofs/Laws has that they lead to `taken`.
-use Prim.Native.Nat.{ℕ}
-use mathlib.Core.List.{List}
+-- A step on the way to a body's answer, for a holder and a content of good shape. proofs/Laws has that it leads to `taken`.
 use Rattle.lists.specs.Lists.{pick}
 use Rattle.answer.specs.Answer.{refused, accepted}
 use Rattle.event.specs.declared.Event.{Event}
 use Rattle.state.specs.declared.Holder.{Holder}
-use Rattle.state.specs.State.{isHeld, mayMove, holding}
+use Rattle.state.specs.State.{isHeld, holding}
 use Rattle.ingest.specs.declared.Offered.{Offered}
 use Rattle.ingest.specs.Judgement.{settled, turnedAway, judgement, nextState}
 use Rattle.layout.specs.Records.{Content, event, snapshot, refusal}
-
--- by where the holder stands: nothing held, held and closed (10), held and live; 0 where the event's own checks follow
-unfoldable pub gateOf : Holder → ℕ → ℕ → ℕ
-gateOf h empty live = pick (isHeld h) (pick (mayMove (h .state)) live 10) empty
 
 -- an event's judgement, with no shape looked at
 abbrev pub judged : Holder → Event → Offered
