@@ -8,7 +8,7 @@ use mathlib.Core.Path.{_≡_, refl, sym, ap, _∙_}
 use mathlib.Core.List.{List, [], _∷_, _++_, append-assoc}
 use mathlib.Core.Bool.{Bool, true, false, not}
 use Prim.Native.Nat.{ℕ, zero, suc, _+_, _-_, _/_, _%_, _≤_, _<_}
-use native.Mathlib.Nat.{add-zero, add-assoc, not-suc-le-zero}
+use native.Mathlib.Nat.{add-zero, zero-add, add-assoc, not-suc-le-zero}
 use native.Mathlib.Numerals.{add-one}
 use native.Mathlib.Omega.{arith}
 use lib.Dec.{leb}
@@ -50,8 +50,13 @@ over-first at y ys b h =
     let e : at + suc (length ys) ≡ at + 1 + length ys = omega arith in
     rw (take-set-next b at y h, drop-set-lt (at + 1 + length ys) b at y k, append-assoc, e)
 
-pub seam : (l d ys : List ℕ) (k : ℕ) → length l ≡ k → take k (l ++ d) ++ (ys ++ drop (k + length ys) (l ++ d)) ≡ l ++ (ys ++ drop (length ys) d)
-seam l d ys k e = rw (← e, take-append-seam, drop-append-add)
+pub over-start : (xs b : List ℕ) → over 0 xs b ≡ xs ++ drop (length xs) b
+unfolding over
+over-start xs b = rw zero-add
+
+pub over-seam : (l d ys : List ℕ) (k : ℕ) → length l ≡ k → over k ys (l ++ d) ≡ l ++ (ys ++ drop (length ys) d)
+unfolding over
+over-seam l d ys k e = rw (← e, take-append-seam, drop-append-add)
 
 -- one piece behind another
 over-over : (at : ℕ) (xs ys b : List ℕ) → at + length xs ≤ length b
@@ -61,7 +66,7 @@ over-over at xs ys b h =
     let p : length (take at b ++ xs) ≡ at + length xs =
     rw length-append (ap (λ (n : ℕ). n + length xs) (length-take-le at b (omega arith))) in
     rw (← append-assoc (take at b) xs (drop (at + length xs) b))
-    (seam (take at b ++ xs) (drop (at + length xs) b) ys (at + length xs) p
+    (over-seam (take at b ++ xs) (drop (at + length xs) b) ys (at + length xs) p
     ∙ simp (drop-drop, append-assoc, length-append, add-assoc))
 
 -- one byte
