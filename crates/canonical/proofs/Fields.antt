@@ -28,7 +28,8 @@ use Rattle.cursor.proofs.Laws.{be-more, raw-got, list-length, many-got}
 use Rattle.field.specs.Field.{placeAt, traitPlaceAt, itemsPlaceAt, configPlaceAt, byteOf, itemOf, itemsOf, configOf}
 use Rattle.threshold_field.specs.declared.Marks.{Marks}
 use Rattle.threshold_field.specs.ThresholdField.{totalAt, passAt, simpleMarks, weightedMarks, weightedAt, marksAs, marksAt, weightOf, noWeight, thresholdOf}
-use Rattle.snapshot.specs.Bytes.{be, wordsBytes, itemBytes, each, itemsBytes, counted, configBytes, weightBytes, thresholdBytes, flagByte}
+use Rattle.writer.specs.Writing.{be}
+use Rattle.snapshot.specs.Bytes.{wordsBytes, itemBytes, each, itemsBytes, counted, configBytes, weightBytes, thresholdBytes, flagByte}
 use Rattle.snapshot.proofs.Laws.{simple-bytes, weighted-bytes}
 use Rattle.snapshot.proofs.Back.{each-byte}
 use Rattle.canonical.specs.Bytes.{Bytes}

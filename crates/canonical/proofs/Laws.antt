@@ -35,7 +35,8 @@ use Rattle.record.specs.declared.EventMarks.{EventMarks}
 use Rattle.record.specs.declared.LastMarks.{LastMarks}
 use Rattle.record.specs.declared.StateMarks.{StateMarks}
 use Rattle.record.specs.Marks.{tailPlaces, inceptionPlaces, rotationPlaces, interactionPlaces, lastPlaces, snapshotPlaces, stateOf}
-use Rattle.snapshot.specs.Bytes.{be, wordsBytes, itemBytes, itemsBytes, configBytes, thresholdBytes, flagByte}
+use Rattle.writer.specs.Writing.{be}
+use Rattle.snapshot.specs.Bytes.{wordsBytes, itemBytes, itemsBytes, configBytes, thresholdBytes, flagByte}
 use Rattle.snapshot.specs.Saved.{pointBytes, groupBytes, headBytes, tailBytes, bodyBytes}
 use Rattle.canonical.specs.Bytes.{Bytes}
 use Rattle.canonical.specs.Canonical.{Run, quorumBytes, signersBytes, Point, Signers, Last}

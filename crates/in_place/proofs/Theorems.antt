@@ -26,7 +26,7 @@ use Rattle.empty.specs.Empty.{nothing}
 use Rattle.layout.specs.Records.{Content, event, snapshot, refusal, contentOf, First, record-of, truncated, firstOf, markOf, bodyLength}
 use Rattle.decoded.specs.Decoded.{Shaped}
 use Rattle.decoded.proofs.Shapes.{decoded-shape}
-use Rattle.snapshot.specs.Bytes.{over}
+use Rattle.writer.specs.Writing.{over}
 use Rattle.snapshot.specs.Saved.{bodyBytes, encoded, saved}
 use Rattle.snapshot.proofs.Size.{record-size}
 use Rattle.receive.specs.Received.{taken, unlessBad, bodyTaken, firstTaken, received}

@@ -34,7 +34,7 @@ use Rattle.resume.proofs.Decoded.{bytes-drop}
 use Rattle.resume.proofs.Theorems.{Sound, sound-snapshot}
 use Rattle.resume.proofs.Stays.{begun-shape, rotated-shape, stepped-shape}
 use Rattle.snapshot.specs.declared.Loose.{Loose}
-use Rattle.snapshot.specs.Bytes.{be, over}
+use Rattle.writer.specs.Writing.{be, over}
 use Rattle.snapshot.specs.Saved.{pointBytes, groupBytes, encoded}
 use Rattle.snapshot.specs.Assembled.{framed, looseOf, placed, fitting, assembled, pointed}
 use Rattle.snapshot.proofs.Assembled.{joined-body, framed-body, saved-placed, stepped-bytes, stepped-length}

@@ -1,34 +1,35 @@
 -- Digits and lines, for the loops that write them. Assumes nothing.
 --     numeral-..   how long a numeral is, and what a loop that counts its digits knows
---     digits-..    a loop that writes digits from the last one
 --     detail-..    a number of two words, word by word
 --     ..-few       no line is longer than `longest`
 --     here, nothing   a line where there is room, and where there is none
-use mathlib.Core.Path.{_≡_, refl, sym, ap, _∙_}
+use mathlib.Core.Path.{_≡_, refl, ap}
 use mathlib.Core.List.{List, [], _∷_, _++_, append-assoc, append-nil}
 use mathlib.Core.Bool.{Bool, true, false}
 use Prim.Native.Nat.{ℕ, zero, suc, _+_, _-_, _*_, _/_, _%_, _^_, _≤_, _<_}
-use native.Mathlib.Nat.{add-zero, add-assoc, add-suc, mul-assoc, mul-one, one-mul, one-le-mul, one-le-pow, zero-mul, zero-add, pow-zero, pow-suc, mod-eq-of-lt, div-lt-iff-lt-mul, mul-add-div-right, mul-add-mod-self-right, mul-le-mul-right, not-suc-le-zero}
-use native.Mathlib.Numerals.{add-one}
+use native.Mathlib.Nat.{add-zero, add-suc, mul-assoc, mul-one, one-mul, one-le-mul, one-le-pow, zero-mul, zero-add, pow-zero, pow-suc, mod-eq-of-lt, div-lt-iff-lt-mul, mul-add-div-right, mul-add-mod-self-right, mul-le-mul-right}
 use native.Mathlib.Omega.{arith}
 use lib.Dec.{ltb, leb}
-use lib.ListN.{length, take, drop, set, length-append, take-append-drop}
-use lib.Seq.{take-set-le, set-split, length-take-le, drop-at}
-use borrow.Author.Tests.{lt-ltb, le-ltb, le-leb, lt-leb, ltb-true, ltb-false, leb-true, leb-false}
+use lib.ListN.{length, length-append}
+use borrow.Author.Tests.{lt-ltb, le-ltb, ltb-true, ltb-false}
 use Rattle.lists.specs.Lists.{pick}
 use Rattle.number.specs.declared.Number.{Number}
 use Rattle.number.specs.Number.{value}
 use Rattle.answer.specs.declared.Answer.{Answer}
 use Rattle.state.specs.declared.Holder.{Holder}
 use Rattle.state.specs.State.{isHeld}
-use Rattle.snapshot.specs.Bytes.{over, Wrote}
+use Rattle.writer.specs.Writing.{Wrote}
+use Rattle.writer.proofs.Laws.{Digits, digits-length}
 use Rattle.lines.specs.Lines.{glyph, digits, numeral, decimal, detail, decimalThen, detailThen, hidesMark, markThen, reachedThen, space, feed, line, endLine, longest, written}
 
 -- ---- Digits
-pub length-digits : (b w n : ℕ) → length (digits b w n) ≡ w
+-- as the writer's laws take them
+pub digits-made : (b : ℕ) → Digits (digits b) b glyph
 unfolding digits
-length-digits b zero n = refl
-length-digits b (suc w) n = simp (length-append, length-digits b w (n / b)) (omega arith)
+digits-made b = record { none = λ n. refl; next = λ w n. refl }
+
+pub length-digits : (b w n : ℕ) → length (digits b w n) ≡ w
+length-digits b = digits-length (digits-made b)
 
 one-digit : (b w n : ℕ) → n < b → numeral b (suc w) n ≡ glyph n ∷ []
 unfolding numeral
@@ -89,39 +90,6 @@ numeral-end b w k n rest h e =
     let f : w - k ≡ 0 = omega arith in
     let g : length (numeral b (w - k) rest) ≡ 0 = rw f in
     omega (arith, e, g)
-
--- ---- As a loop writes digits from the last one: the first i are to come.
-drop-set-same : (b : List ℕ) (k y : ℕ) → k < length b → drop k (set b k y) ≡ y ∷ drop (k + 1) b
-drop-set-same b k y h =
-    let l : length (take k b) ≡ k = length-take-le k b (omega arith) in
-    rw (set-split b k y h, add-one) (drop-at (take k b) (y ∷ drop (suc k) b) k l)
-
-over-none : (at : ℕ) (b : List ℕ) → over at [] b ≡ b
-unfolding over
-over-none at b = rw (add-zero, take-append-drop)
-
-over-last : (at : ℕ) (xs : List ℕ) (y : ℕ) (b : List ℕ) → at + length xs < length b
-    → over at (xs ++ (y ∷ [])) b ≡ over at xs (set b (at + length xs) y)
-unfolding over
-over-last at xs y b h =
-    let k : at ≤ at + length xs = omega arith in
-    rw (take-set-le at b (at + length xs) y k, drop-set-same b (at + length xs) y h, length-append, append-assoc, ← add-assoc)
-
-pub digits-less : (w : List ℕ) (at : ℕ) (b : List ℕ) (base i rest : ℕ) → 0 < i → at + i ≤ length b → w ≡ over at (digits base i rest) b
-    → w ≡ over at (digits base (i - 1) (rest / base)) (set b (at + (i - 1)) (glyph (rest % base)))
-unfolding digits
-digits-less w at b base zero rest h k e = absurd (not-suc-le-zero h)
-digits-less w at b base (suc i) rest h k e =
-    let l : at + length (digits base i (rest / base)) < length b = rw length-digits (omega arith) in
-    let j : suc i - 1 ≡ i = omega arith in
-    e ∙ over-last at (digits base i (rest / base)) (glyph (rest % base)) b l ∙ rw (length-digits, j)
-
-pub digits-end : (at base width n : ℕ) (b₀ b : List ℕ) (i rest : ℕ) → i ≤ 0 → over at (digits base width n) b₀ ≡ over at (digits base i rest) b
-    → Wrote (digits base width n) at b₀ (at + width) b
-unfolding digits
-digits-end at base width n b₀ b i rest h e =
-    let j : i ≡ 0 = omega arith in
-    record { behind = ap (λ (k : ℕ). at + k) (sym (length-digits base width n)); bytes = sym (e ∙ rw j (over-none at b)) }
 
 -- ---- A number of two words
 -- more places change nothing where the number has its digits
@@ -240,11 +208,3 @@ here xs at b b' q t w = rw t (w .behind, w .bytes)
 pub nothing : (xs : List ℕ) (at : ℕ) (b : List ℕ) → leb (at + longest) (length b) ≡ false → (at ≡ written xs at b .0) × (b ≡ written xs at b .1)
 unfolding written
 nothing xs at b t = rw t (refl, refl)
-
--- the test for room, without a sum that could be too large
-pub room-test : (at n : ℕ) → longest ≤ n → leb at (n - longest) ≡ leb (at + longest) n
-room-test at n h = go (leb at (n - longest)) refl
-  where
-    go : (t : Bool) → leb at (n - longest) ≡ t → t ≡ leb (at + longest) n
-    go true e = let k = leb-true at (n - longest) e in sym (le-leb (at + longest) n (omega arith))
-    go false e = let k = leb-false at (n - longest) e in sym (lt-leb (at + longest) n (omega arith))

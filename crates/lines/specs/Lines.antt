@@ -12,7 +12,7 @@ use Rattle.number.specs.Number.{value}
 use Rattle.answer.specs.declared.Answer.{Answer}
 use Rattle.state.specs.declared.Holder.{Holder}
 use Rattle.state.specs.State.{isHeld}
-use Rattle.snapshot.specs.Bytes.{over}
+use Rattle.writer.specs.Writing.{over}
 
 -- ---- Numbers
 -- a digit: 0 to 9, then a to f

@@ -1,11 +1,10 @@
 // Document 01's lines as bytes: one for each answer, and the last one. Each is written over a lent buffer from a place on.
 ghost use mathlib.Core.Path.{_≡_};
 ghost use mathlib.Core.List.{[], _∷_};
-ghost use Prim.Native.Nat.{_+_, _≤_, _<_};
-ghost use lib.Dec.{leb};
+ghost use Prim.Native.Nat.{_≤_, _<_};
 ghost use lib.ListN.{length};
-ghost use Rattle.snapshot.specs.Bytes.{Room, Wrote};
-ghost use Rattle.lines.specs.Lines.{digits, numeral, detail, decimalThen, detailThen, hidesMark, markThen, reachedThen, line, endLine, longest, written};
+ghost use Rattle.writer.specs.Writing.{Room, Wrote};
+ghost use Rattle.lines.specs.Lines.{digits, numeral, detail, decimalThen, detailThen, hidesMark, markThen, reachedThen, line, endLine, written};
 ghost use Rattle.lines.specs.Lines.{glyph as Lines·glyph};
 use answer::Answer;
 use number::Number;
@@ -13,19 +12,6 @@ use state::Holder;
 
 // How many bytes a line may have: who lends a buffer leaves room for them.
 pub const LONGEST: usize = 111;
-
-// Each `put` writes from a place on where its caller has room, and gives the place behind what it wrote.
-fn put_bytes(buf: &mut [u8], at: usize, src: &[u8]) -> usize
-    requires { ⌜ Room (now src) at (now buf) ⌝ }
-    ensures { λ r. ⌜ Wrote (now (src .entry)) at (now (buf .entry)) r (now (buf .exit)) ⌝ }
-{
-    let mut i: usize = 0;
-    while i < src.len() {
-        buf[at + i] = src[i];
-        i += 1;
-    }
-    at + i
-}
 
 fn glyph(d: u64) -> u8
     requires { ⌜ d < 16 ⌝ }
@@ -55,6 +41,7 @@ fn size(base: u64, most: usize, n: u64) -> usize
     k
 }
 
+// Each `put` writes from a place on where its caller has room, and gives the place behind what it wrote.
 // The last digit is the lowest.
 fn put_digits(buf: &mut [u8], at: usize, base: u64, width: usize, n: u64) -> usize
     requires { ⌜ 1 < base ⌝ }
@@ -87,7 +74,7 @@ fn put_decimal(buf: &mut [u8], at: usize, n: u64, behind: u8) -> usize
     ensures { λ r. ⌜ Wrote (decimalThen behind n) at (now (buf .entry)) r (now (buf .exit)) ⌝ }
 {
     let p = put_numeral(buf, at, 10, 20, n);
-    put_bytes(buf, p, &[behind])
+    writer::byte(buf, p, behind)
 }
 
 // Two words: the high one without leading zeros, then all of the low one's digits.
@@ -109,7 +96,7 @@ fn put_detail(buf: &mut [u8], at: usize, x: Number, behind: u8) -> usize
     ensures { λ r. ⌜ Wrote (detailThen behind x) at (now (buf .entry)) r (now (buf .exit)) ⌝ }
 {
     let p = put_words(buf, at, x);
-    put_bytes(buf, p, &[behind])
+    writer::byte(buf, p, behind)
 }
 
 // "?? with answers 1 and 2"
@@ -124,11 +111,11 @@ fn put_mark(buf: &mut [u8], at: usize, number: u8, mark: u16, behind: u8) -> usi
     ensures { λ r. ⌜ Wrote (markThen behind number mark) at (now (buf .entry)) r (now (buf .exit)) ⌝ }
 {
     if hides_mark(number) {
-        return put_bytes(buf, at, &[b'?', b'?', behind]);
+        return writer::bytes(buf, at, &[b'?', b'?', behind]);
     }
     let first = (mark / 256) as u8;
     let second = (mark % 256) as u8;
-    put_bytes(buf, at, &[first, second, behind])
+    writer::bytes(buf, at, &[first, second, behind])
 }
 
 fn put_answer(buf: &mut [u8], at: usize, ordinal: u64, mark: u16, x: Answer) -> usize
@@ -152,7 +139,7 @@ fn put_reached(buf: &mut [u8], at: usize, h: Holder, behind: u8) -> usize
 {
     let held = h.held;
     if !held {
-        return put_bytes(buf, at, &[b'-', behind]);
+        return writer::bytes(buf, at, &[b'-', behind]);
     }
     let s = h.state;
     let sn = s.sn;
@@ -163,20 +150,10 @@ fn put_counts(buf: &mut [u8], at: usize, accepted: u64, offered: u64, h: Holder)
     requires { ⌜ Room (endLine accepted offered h) at (now buf) ⌝ }
     ensures { λ r. ⌜ Wrote (endLine accepted offered h) at (now (buf .entry)) r (now (buf .exit)) ⌝ }
 {
-    let p = put_bytes(buf, at, b"end ");
+    let p = writer::bytes(buf, at, b"end ");
     let q = put_decimal(buf, p, accepted, b' ');
     let r = put_decimal(buf, q, offered, b' ');
     put_reached(buf, r, h, b'\n')
-}
-
-fn is_room(buf: &[u8], at: usize) -> bool
-    ensures { λ r. ⌜ r ≡ leb (at + longest) (length (now (buf .entry))) ⌝ }
-{
-    let n = buf.len();
-    if n < LONGEST {
-        return false;
-    }
-    at <= n - LONGEST
 }
 
 // The line of an answer. It gives the place behind the line; where the longest line has no room, nothing is written.
@@ -184,7 +161,7 @@ pub fn put_line(buf: &mut [u8], at: usize, ordinal: u64, mark: u16, x: Answer) -
     ensures { λ r. ⌜ r ≡ written (line ordinal mark x) at (now (buf .entry)) .0 ⌝ }
     ensures { λ _. ⌜ now (buf .exit) ≡ written (line ordinal mark x) at (now (buf .entry)) .1 ⌝ }
 {
-    if !is_room(buf, at) {
+    if !writer::room(buf, at, LONGEST) {
         return at;
     }
     put_answer(buf, at, ordinal, mark, x)
@@ -195,7 +172,7 @@ pub fn put_end(buf: &mut [u8], at: usize, accepted: u64, offered: u64, h: Holder
     ensures { λ r. ⌜ r ≡ written (endLine accepted offered h) at (now (buf .entry)) .0 ⌝ }
     ensures { λ _. ⌜ now (buf .exit) ≡ written (endLine accepted offered h) at (now (buf .entry)) .1 ⌝ }
 {
-    if !is_room(buf, at) {
+    if !writer::room(buf, at, LONGEST) {
         return at;
     }
     put_counts(buf, at, accepted, offered, h)

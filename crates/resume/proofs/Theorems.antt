@@ -17,7 +17,7 @@ use Rattle.state.specs.State.{isHeld, holding}
 use Rattle.shape.specs.State.{stateShape, holderShape}
 use Rattle.ingest.specs.Judgement.{offered}
 use Rattle.layout.specs.Records.{event, snapshot, record-of, contentOf, firstOf, bodyLength}
-use Rattle.snapshot.specs.Bytes.{over}
+use Rattle.writer.specs.Writing.{over}
 use Rattle.snapshot.specs.Saved.{bodyBytes, encoded, saved}
 use Rattle.snapshot.proofs.Size.{record-size, saved-whole}
 use Rattle.snapshot.proofs.Longest.{longest-real}

@@ -5,7 +5,6 @@ use mathlib.Core.Path.{_≡_, refl, sym, _∙_}
 use mathlib.Core.List.{List, [], _∷_, _++_, append-assoc}
 use mathlib.Core.Bool.{Bool, true, false, not}
 use Prim.Native.Nat.{ℕ, _+_, _≤_, _<_}
-use native.Mathlib.Nat.{zero-add}
 use native.Mathlib.Omega.{arith}
 use lib.Dec.{leb}
 use lib.ListN.{length, drop, length-append}
@@ -22,11 +21,12 @@ use Rattle.state.specs.declared.KeyState.{KeyState}
 use Rattle.state.specs.State.{stepped, isHeld, holding}
 use Rattle.shape.specs.State.{stateShape, holderShape}
 use Rattle.snapshot.specs.declared.Loose.{Loose}
-use Rattle.snapshot.specs.Bytes.{be, itemBytes, itemsBytes, over}
+use Rattle.writer.specs.Writing.{be, over}
+use Rattle.snapshot.specs.Bytes.{itemBytes, itemsBytes}
 use Rattle.snapshot.specs.Saved.{pointBytes, groupBytes, headBytes, tailBytes, bodyBytes, encoded, saved}
 use Rattle.snapshot.specs.Assembled.{framed, joined, frontBytes, backBytes, looseOf, placed, fitting, assembled, pointed}
 use Rattle.snapshot.proofs.Loose.{the-row}
-use Rattle.snapshot.proofs.Laws.{length-be, seam}
+use Rattle.writer.proofs.Laws.{over-start, over-seam, length-be}
 use Rattle.snapshot.proofs.Size.{item-size, config-size, record-size}
 use Rattle.snapshot.proofs.Real.{RealItems, real-items, raw-32}
 
@@ -47,14 +47,6 @@ unfolding saved placed holderShape isHeld
 saved-placed s buf e = rw e
 
 -- ---- an interaction: a run of bytes over another of its length
-over-start : (xs b : List ℕ) → over 0 xs b ≡ xs ++ drop (length xs) b
-unfolding over
-over-start xs b = rw zero-add
-
-over-seam : (l d ys : List ℕ) (k : ℕ) → length l ≡ k → over k ys (l ++ d) ≡ l ++ (ys ++ drop (length ys) d)
-unfolding over
-over-seam l d ys k e = seam l d ys k e
-
 swapped : (a m m' r b : List ℕ) (k : ℕ) → length a ≡ k → length m ≡ length m' → over k m' (over 0 (a ++ (m ++ r)) b) ≡ over 0 (a ++ (m' ++ r)) b
 swapped a m m' r b k ha hm =
     let d = drop (length (a ++ (m ++ r))) b in

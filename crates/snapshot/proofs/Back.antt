@@ -34,7 +34,8 @@ use Rattle.shape.specs.State.{stateShape}
 use Rattle.format.specs.Parse.{got, byteAt, numAt, rawAt, manyAt, listAt}
 use Rattle.format.specs.Fields.{snAt, itemAt, itemsAt, traitAt, configAt, flagAt, simple, weighted, sizesAt, total, weightAt, clausesAt, thresholdAs, thresholdAt}
 use Rattle.layout.specs.Records.{firstHeadAt, authorityAt, commitmentAt, latestAt, snapshotAt}
-use Rattle.snapshot.specs.Bytes.{be, wordsBytes, itemBytes, each, itemsBytes, counted, configBytes, weightBytes, thresholdBytes, flagByte}
+use Rattle.writer.specs.Writing.{be}
+use Rattle.snapshot.specs.Bytes.{wordsBytes, itemBytes, each, itemsBytes, counted, configBytes, weightBytes, thresholdBytes, flagByte}
 use Rattle.snapshot.specs.Saved.{pointBytes, groupBytes, headBytes, tailBytes, bodyBytes}
 use Rattle.snapshot.proofs.Laws.{simple-bytes, weighted-bytes}
 use Rattle.snapshot.proofs.Shapes.{Simple, Weighted, is-simple, is-weighted, GoodState, good-state}

@@ -26,7 +26,8 @@ use Rattle.state.specs.declared.KeyState.{KeyState}
 use Rattle.state.proofs.KeyState as state
 use Rattle.shape.specs.Event.{ownShape, nextShape}
 use Rattle.shape.specs.State.{stateHead, stateTail, stateShape}
-use Rattle.snapshot.specs.Bytes.{be, wordsBytes, itemBytes, each, itemsBytes, counted, configBytes, thresholdBytes}
+use Rattle.writer.specs.Writing.{be}
+use Rattle.snapshot.specs.Bytes.{wordsBytes, itemBytes, each, itemsBytes, counted, configBytes, thresholdBytes}
 use Rattle.snapshot.specs.Saved.{pointBytes, groupBytes, headBytes, tailBytes, bodyBytes}
 use Rattle.snapshot.proofs.Shapes.{is-weighted, good-state}
 use Rattle.snapshot.proofs.Real.{RealItems, RealThreshold, RealState, real-state}

@@ -12,8 +12,9 @@ use lib.ListN.{length, drop, getD, length-append, length-drop}
 use lib.Seq.{drop-drop, drop-append-seam, take-at, getD-drop}
 use borrow.Author.Tests.{le-leb, lt-ltb, eq-eqb}
 use Rattle.format.specs.Parse.{Parse, got, _>>=_, byteAt, beFrom, numAt, rawAt, classed, manyAt, listAt, ended}
-use Rattle.snapshot.specs.Bytes.{be, each}
-use Rattle.snapshot.proofs.Laws.{length-be}
+use Rattle.writer.specs.Writing.{be}
+use Rattle.snapshot.specs.Bytes.{each}
+use Rattle.writer.proofs.Laws.{length-be}
 
 -- the bytes xs, wherever they stand before a rest that R allows, are read as a
 unfoldable pub Reads : {A : Type 0} → (List ℕ → Type 0) → (List ℕ → ℕ → Parse A) → List ℕ → A → Type 0

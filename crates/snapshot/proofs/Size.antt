@@ -21,9 +21,11 @@ use Rattle.state.specs.declared.KeyState.{KeyState}
 use Rattle.state.specs.declared.Holder.{Holder}
 use Rattle.state.specs.State.{isHeld}
 use Rattle.shape.specs.State.{stateShape, holderShape}
-use Rattle.snapshot.specs.Bytes.{be, wordsBytes, itemBytes, each, itemsBytes, counted, configBytes, weightBytes, thresholdBytes, over}
+use Rattle.writer.specs.Writing.{be, over}
+use Rattle.snapshot.specs.Bytes.{wordsBytes, itemBytes, each, itemsBytes, counted, configBytes, weightBytes, thresholdBytes}
 use Rattle.snapshot.specs.Saved.{pointBytes, groupBytes, headBytes, tailBytes, bodyBytes, encoded, saved}
-use Rattle.snapshot.proofs.Laws.{length-be, simple-bytes, weighted-bytes}
+use Rattle.writer.proofs.Laws.{length-be}
+use Rattle.snapshot.proofs.Laws.{simple-bytes, weighted-bytes}
 use Rattle.snapshot.proofs.Round.{Each}
 use Rattle.snapshot.proofs.Real.{RealItems, RealThreshold, RealState}
 

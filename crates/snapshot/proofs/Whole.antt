@@ -12,7 +12,7 @@ use Rattle.state.specs.declared.KeyState.{KeyState}
 use Rattle.state.proofs.KeyState as state
 use Rattle.shape.specs.State.{stateShape}
 use Rattle.layout.specs.Records.{snapshot, record-of, contentOf, firstOf}
-use Rattle.snapshot.specs.Bytes.{be, over}
+use Rattle.writer.specs.Writing.{be, over}
 use Rattle.snapshot.specs.Saved.{bodyBytes, encoded}
 use Rattle.snapshot.proofs.Real.{RealState, real-state}
 use Rattle.snapshot.proofs.Back.{round-trip-real}

@@ -12,7 +12,8 @@ use Rattle.answer.specs.declared.Answer.{Answer}
 use Rattle.answer.specs.Answer.{refused}
 use Rattle.state.specs.declared.KeyState.{KeyState}
 use Rattle.snapshot.specs.declared.Loose.{Loose}
-use Rattle.snapshot.specs.Bytes.{be, itemBytes, itemsBytes, configBytes, flagByte, over}
+use Rattle.writer.specs.Writing.{be, over}
+use Rattle.snapshot.specs.Bytes.{itemBytes, itemsBytes, configBytes, flagByte}
 
 -- "A record is a two-byte ASCII mark, a u16 body length, the body": KS is 0x4B, 0x53. `encoded s` is `framed (bodyBytes s)`.
 abbrev pub framed : List ℕ → List ℕ

@@ -1,10 +1,11 @@
--- The bytes of a KS record's fields, and what it is to write bytes over a buffer.
+-- The bytes of a KS record's fields.
 use mathlib.Core.Path.{_≡_}
-use Prim.Native.Nat.{ℕ, zero, suc, _+_, _/_, _%_, _≤_}
+use Prim.Native.Nat.{ℕ, _≤_}
 use mathlib.Core.List.{List, [], _∷_, _++_}
 use mathlib.Core.Bool.{Bool}
-use lib.ListN.{length, take, drop}
+use lib.ListN.{length, take}
 use Rattle.lists.specs.Lists.{pick}
+use Rattle.writer.specs.Writing.{be}
 use Rattle.item.specs.declared.Item.{Item}
 use Rattle.items.specs.declared.Items.{Items}
 use Rattle.items.specs.Items.{listed}
@@ -13,12 +14,6 @@ use Rattle.config.specs.Config.{traitsOf}
 use Rattle.weight.specs.declared.Weight.{Weight}
 use Rattle.threshold.specs.declared.Threshold.{Threshold}
 use Rattle.threshold.specs.Threshold.{isSimple, sizesOf, weightsIn}
-
--- ---- Fields
--- "Numbers are big-endian": a number in w bytes
-unfoldable pub be : ℕ → ℕ → List ℕ
-be zero v = []
-be (suc w) v = be w (v / 256) ++ (v % 256 ∷ [])
 
 -- two words, the first one first: a sequence number, a weight
 unfoldable pub wordsBytes : ℕ → ℕ → List ℕ
@@ -58,20 +53,6 @@ thresholdBytes t =
 -- 0 or 1
 abbrev pub flagByte : Bool → ℕ
 flagByte b = pick b 1 0
-
--- ---- Writing
--- b with xs over its bytes from `at` on
-unfoldable pub over : ℕ → List ℕ → List ℕ → List ℕ
-over at xs b = take at b ++ (xs ++ drop (at + length xs) b)
-
--- there is room for xs
-abbrev pub Room : List ℕ → ℕ → List ℕ → Type 0
-Room xs at b = at + length xs ≤ length b
-
--- xs was written from `at` on, and nothing else: `next` is the place behind it
-pub record Wrote (xs : List ℕ) (at : ℕ) (before : List ℕ) (next : ℕ) (after : List ℕ) : Type 0 where
-  pub behind : next ≡ at + length xs
-  pub bytes : after ≡ over at xs before
 
 -- n is how many bytes xs has, and no more than `most`
 pub record Sized (xs : List ℕ) (most : ℕ) (n : ℕ) : Type 0 where

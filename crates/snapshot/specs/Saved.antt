@@ -16,7 +16,8 @@ use Rattle.state.specs.declared.KeyState.{KeyState}
 use Rattle.state.specs.declared.Holder.{Holder}
 use Rattle.state.specs.State.{isHeld}
 use Rattle.shape.specs.State.{holderShape}
-use Rattle.snapshot.specs.Bytes.{be, wordsBytes, itemBytes, itemsBytes, configBytes, thresholdBytes, flagByte, over}
+use Rattle.writer.specs.Writing.{be, over}
+use Rattle.snapshot.specs.Bytes.{wordsBytes, itemBytes, itemsBytes, configBytes, thresholdBytes, flagByte}
 
 -- ---- The groups of fields that a snapshot has twice
 -- "sn, said": of the latest event, of the last establishment

@@ -4,9 +4,10 @@ ghost use mathlib.Core.List.{[], _∷_};
 ghost use Prim.Native.Nat.{_+_, _≤_, _<_};
 ghost use mathlib.Core.Bool.{true};
 ghost use lib.ListN.{length, take};
-ghost use Rattle.snapshot.specs.Bytes.{be, wordsBytes, itemBytes, each, itemsBytes, counted, configBytes, weightBytes, thresholdBytes, flagByte, Room, Wrote, Sized};
+ghost use Rattle.snapshot.specs.Bytes.{wordsBytes, itemBytes, each, itemsBytes, counted, configBytes, weightBytes, thresholdBytes, flagByte, Sized};
 ghost use Rattle.snapshot.specs.Saved.{pointBytes, groupBytes, headBytes, tailBytes, bodyBytes, encoded, saved};
 ghost use Rattle.snapshot.specs.Assembled.{framed, joined, frontBytes, backBytes, fitting, assembled, pointed};
+ghost use Rattle.writer.specs.Writing.{Room, Wrote};
 ghost use Rattle.threshold.specs.Threshold.{shapeOf};
 ghost use Rattle.shape.specs.State.{stateShape};
 use answer::Answer;
@@ -21,47 +22,12 @@ use threshold::Threshold;
 use weight::Weight;
 
 // Each `put` writes from a place on where its caller has room, and gives the place behind what it wrote.
-fn put_byte(buf: &mut [u8], at: usize, b: u8) -> usize
-    requires { ⌜ Room (b ∷ []) at (now buf) ⌝ }
-    ensures { λ r. ⌜ Wrote (b ∷ []) at (now (buf .entry)) r (now (buf .exit)) ⌝ }
-{
-    buf[at] = b;
-    at + 1
-}
-
-fn put_bytes(buf: &mut [u8], at: usize, src: &[u8]) -> usize
-    requires { ⌜ Room (now src) at (now buf) ⌝ }
-    ensures { λ r. ⌜ Wrote (now (src .entry)) at (now (buf .entry)) r (now (buf .exit)) ⌝ }
-{
-    let mut i: usize = 0;
-    while i < src.len() {
-        buf[at + i] = src[i];
-        i += 1;
-    }
-    at + i
-}
-
-// "Numbers are big-endian": the last byte is the lowest.
-fn put_number(buf: &mut [u8], at: usize, width: usize, v: u64) -> usize
-    requires { ⌜ Room (be width v) at (now buf) ⌝ }
-    ensures { λ r. ⌜ Wrote (be width v) at (now (buf .entry)) r (now (buf .exit)) ⌝ }
-{
-    let mut x = v;
-    let mut i = width;
-    while 0 < i {
-        i = i - 1;
-        buf[at + i] = (x % 256) as u8;
-        x = x / 256;
-    }
-    at + width
-}
-
 fn put_words(buf: &mut [u8], at: usize, a: u64, b: u64) -> usize
     requires { ⌜ Room (wordsBytes a b) at (now buf) ⌝ }
     ensures { λ r. ⌜ Wrote (wordsBytes a b) at (now (buf .entry)) r (now (buf .exit)) ⌝ }
 {
-    let p = put_number(buf, at, 8, a);
-    put_number(buf, p, 8, b)
+    let p = writer::number(buf, at, 8, a);
+    writer::number(buf, p, 8, b)
 }
 
 fn put_item(buf: &mut [u8], at: usize, x: Item) -> usize
@@ -69,8 +35,8 @@ fn put_item(buf: &mut [u8], at: usize, x: Item) -> usize
     ensures { λ r. ⌜ Wrote (itemBytes x) at (now (buf .entry)) r (now (buf .exit)) ⌝ }
 {
     let raw = x.raw;
-    let p = put_byte(buf, at, x.code);
-    put_bytes(buf, p, &raw)
+    let p = writer::byte(buf, at, x.code);
+    writer::bytes(buf, p, &raw)
 }
 
 fn put_items(buf: &mut [u8], at: usize, l: Items) -> usize
@@ -80,7 +46,7 @@ fn put_items(buf: &mut [u8], at: usize, l: Items) -> usize
 {
     let n = l.count;
     let places = l.at;
-    let mut p = put_byte(buf, at, n as u8);
+    let mut p = writer::byte(buf, at, n as u8);
     let mut i: usize = 0;
     while i < n {
         let x = places[i];
@@ -96,8 +62,8 @@ fn put_counted(buf: &mut [u8], at: usize, src: &[u8]) -> usize
     ensures { λ r. ⌜ Wrote (counted (now (src .entry))) at (now (buf .entry)) r (now (buf .exit)) ⌝ }
 {
     let n = src.len();
-    let p = put_byte(buf, at, n as u8);
-    put_bytes(buf, p, src)
+    let p = writer::byte(buf, at, n as u8);
+    writer::bytes(buf, p, src)
 }
 
 fn put_weights(buf: &mut [u8], at: usize, weights: [Weight; 16], n: usize) -> usize
@@ -121,14 +87,14 @@ fn put_threshold(buf: &mut [u8], at: usize, t: Threshold) -> usize
     ensures { λ r. ⌜ Wrote (thresholdBytes t) at (now (buf .entry)) r (now (buf .exit)) ⌝ }
 {
     if t.tag == 0 {
-        let p = put_byte(buf, at, 0);
-        return put_number(buf, p, 8, t.simple);
+        let p = writer::byte(buf, at, 0);
+        return writer::number(buf, p, 8, t.simple);
     }
     let n = t.clauses;
     let sizes = t.sizes;
     let weights = t.weights;
     let total = threshold::weights_in(sizes, n);
-    let p = put_byte(buf, at, 1);
+    let p = writer::byte(buf, at, 1);
     let q = put_counted(buf, p, &sizes[..n]);
     put_weights(buf, q, weights, total)
 }
@@ -192,9 +158,9 @@ fn put_tail(buf: &mut [u8], at: usize, s: KeyState) -> usize
     let said = last.said;
     let flag = flag_byte(s.transferable);
     let p = put_items(buf, at, witnesses);
-    let q = put_number(buf, p, 4, toad as u64);
+    let q = writer::number(buf, p, 4, toad as u64);
     let r = put_config(buf, q, config);
-    let e = put_byte(buf, r, flag);
+    let e = writer::byte(buf, r, flag);
     put_point(buf, e, sn, said)
 }
 
@@ -210,7 +176,7 @@ fn put_body(buf: &mut [u8], at: usize, s: KeyState) -> usize
     let next = commitment.next;
     let next_threshold = commitment.threshold;
     let p = put_head(buf, at, s);
-    let q = put_byte(buf, p, s.latest);
+    let q = writer::byte(buf, p, s.latest);
     let r = put_group(buf, q, keys, own_threshold);
     let e = put_group(buf, r, next, next_threshold);
     put_tail(buf, e, s)
@@ -268,8 +234,8 @@ fn put_record(buf: &mut [u8], s: KeyState, size: usize) -> usize
     requires { ⌜ Room (encoded s) 0 (now buf) ⌝ }
     ensures { λ r. ⌜ Wrote (encoded s) 0 (now (buf .entry)) r (now (buf .exit)) ⌝ }
 {
-    let p = put_bytes(buf, 0, b"KS");
-    let q = put_number(buf, p, 2, size as u64);
+    let p = writer::bytes(buf, 0, b"KS");
+    let q = writer::number(buf, p, 2, size as u64);
     put_body(buf, q, s)
 }
 
@@ -318,9 +284,9 @@ fn put_front(
     ensures { λ r. ⌜ Wrote (frontBytes prefix (now (point .entry)) latest (now (signers .entry))) at (now (buf .entry)) r (now (buf .exit)) ⌝ }
 {
     let p = put_item(buf, at, prefix);
-    let q = put_bytes(buf, p, point);
-    let r = put_byte(buf, q, latest);
-    put_bytes(buf, r, signers)
+    let q = writer::bytes(buf, p, point);
+    let r = writer::byte(buf, q, latest);
+    writer::bytes(buf, r, signers)
 }
 
 fn put_back(
@@ -340,10 +306,10 @@ fn put_back(
     let toad = w.toad;
     let flag = flag_byte(transferable);
     let p = put_items(buf, at, witnesses);
-    let q = put_number(buf, p, 4, toad as u64);
+    let q = writer::number(buf, p, 4, toad as u64);
     let r = put_config(buf, q, c);
-    let e = put_byte(buf, r, flag);
-    put_bytes(buf, e, last)
+    let e = writer::byte(buf, r, flag);
+    writer::bytes(buf, e, last)
 }
 
 fn put_joined(
@@ -362,8 +328,8 @@ fn put_joined(
     let prefix = x.prefix;
     let witnessing = x.witnessing;
     let config = x.config;
-    let m = put_bytes(buf, 0, b"KS");
-    let q = put_number(buf, m, 2, size as u64);
+    let m = writer::bytes(buf, 0, b"KS");
+    let q = writer::number(buf, m, 2, size as u64);
     let r = put_front(buf, q, prefix, point, x.latest, signers);
     put_back(buf, r, witnessing, config, x.transferable, last)
 }
@@ -429,6 +395,6 @@ pub fn step(point: &[u8], buf: &mut [u8])
     if buf.len() < 87 {
         return;
     }
-    let p = put_bytes(buf, 37, point);
-    put_byte(buf, p, 2);
+    let p = writer::bytes(buf, 37, point);
+    writer::byte(buf, p, 2);
 }

@@ -28,7 +28,7 @@ use Rattle.decoded.proofs.Gives.{Each}
 use Rattle.layout.specs.Records.{Content, event, snapshot, refusal, contentOf, First, record-of, truncated, firstOf, markOf, bodyLength}
 use Rattle.ingest.specs.Judgement.{turnedAway}
 use Rattle.receive.specs.Received.{taken, unlessBad, firstTaken, received}
-use Rattle.snapshot.specs.Bytes.{over}
+use Rattle.writer.specs.Writing.{over}
 use Rattle.snapshot.specs.Saved.{saved, encoded}
 use Rattle.log.specs.Log.{recordsOf, after, answers}
 use Rattle.log.proofs.Steps.{ShapedFirst, records-shaped}

@@ -1,4 +1,4 @@
-use Rattle.snapshot.proofs.Laws.{begin, fits, more, last}
+use Rattle.writer.proofs.Laws.{begin, fits, more, last}
 use Rattle.lines.specs.Lines.{space, feed, decimalThen, markThen, detailThen, line}
 use Prim.Native.Nat.{_-_}
 use borrow.Author.Needs.{needs}

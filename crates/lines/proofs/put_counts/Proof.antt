@@ -1,4 +1,4 @@
-use Rattle.snapshot.proofs.Laws.{begin, fits, more, last}
+use Rattle.writer.proofs.Laws.{begin, fits, more, last, put-more}
 use Rattle.lines.specs.Lines.{space, feed, decimalThen, reachedThen, endLine}
 use mathlib.Core.List.{[], _∷_, _++_}
 use Prim.Native.Nat.{_+_, _-_}
@@ -6,22 +6,18 @@ use borrow.Author.Needs.{needs}
 use Rattle.lines.proofs.put_counts.Statement.{statement}
 use Rattle.lines.proofs.put_counts.Tie as tie
 
-slice-aggregate-put-bytes : tie.Need-slice-aggregate-put-bytes
-slice-aggregate-put-bytes c = search needs
+slice-aggregate-bytes : tie.Need-slice-aggregate-bytes
+slice-aggregate-bytes c = search needs
 
-put-bytes-requires : tie.Need-put-bytes-requires
-unfolding endLine
-put-bytes-requires c κs =
-    let a = c .before .before .before .args in
-    let l0 = begin (endLine (a .accepted) (a .offered) (a .h)) (a .at) (a .buf .now) (c .before .before .before .pre) in
-    fits (0x65 ∷ 0x6E ∷ 0x64 ∷ space ∷ []) _ l0
+bytes-requires : tie.Need-bytes-requires
+bytes-requires c κs = search needs
 
 put-decimal-requires : tie.Need-put-decimal-requires
 unfolding endLine
 put-decimal-requires c κs =
     let a = c .before .before .before .before .before .before .before .args in
     let l0 = begin (endLine (a .accepted) (a .offered) (a .h)) (a .at) (a .buf .now) (c .before .before .before .before .before .before .before .pre) in
-    let l1 = more (0x65 ∷ 0x6E ∷ 0x64 ∷ space ∷ []) (decimalThen space (a .accepted) ++ (decimalThen space (a .offered) ++ reachedThen feed (a .h))) l0 (c .before .before .before .put-bytes .ensures) in
+    let l1 = put-more (0x65 ∷ 0x6E ∷ 0x64 ∷ space ∷ []) (decimalThen space (a .accepted) ++ (decimalThen space (a .offered) ++ reachedThen feed (a .h))) l0 (c .before .before .before .bytes .ensures) in
     fits (decimalThen space (a .accepted)) _ l1
 
 put-decimal-requires-2 : tie.Need-put-decimal-requires-2
@@ -29,7 +25,7 @@ unfolding endLine
 put-decimal-requires-2 c κs =
     let a = c .before .before .before .before .before .before .before .before .before .before .before .args in
     let l0 = begin (endLine (a .accepted) (a .offered) (a .h)) (a .at) (a .buf .now) (c .before .before .before .before .before .before .before .before .before .before .before .pre) in
-    let l1 = more (0x65 ∷ 0x6E ∷ 0x64 ∷ space ∷ []) (decimalThen space (a .accepted) ++ (decimalThen space (a .offered) ++ reachedThen feed (a .h))) l0 (c .before .before .before .before .before .before .before .put-bytes .ensures) in
+    let l1 = put-more (0x65 ∷ 0x6E ∷ 0x64 ∷ space ∷ []) (decimalThen space (a .accepted) ++ (decimalThen space (a .offered) ++ reachedThen feed (a .h))) l0 (c .before .before .before .before .before .before .before .bytes .ensures) in
     let l2 = more (decimalThen space (a .accepted)) (decimalThen space (a .offered) ++ reachedThen feed (a .h)) l1 (c .before .before .before .put-decimal .ensures) in
     fits (decimalThen space (a .offered)) _ l2
 
@@ -38,7 +34,7 @@ unfolding endLine
 put-reached-requires c κs =
     let a = c .before .before .before .before .before .before .before .before .before .before .before .before .before .before .before .args in
     let l0 = begin (endLine (a .accepted) (a .offered) (a .h)) (a .at) (a .buf .now) (c .before .before .before .before .before .before .before .before .before .before .before .before .before .before .before .pre) in
-    let l1 = more (0x65 ∷ 0x6E ∷ 0x64 ∷ space ∷ []) (decimalThen space (a .accepted) ++ (decimalThen space (a .offered) ++ reachedThen feed (a .h))) l0 (c .before .before .before .before .before .before .before .before .before .before .before .put-bytes .ensures) in
+    let l1 = put-more (0x65 ∷ 0x6E ∷ 0x64 ∷ space ∷ []) (decimalThen space (a .accepted) ++ (decimalThen space (a .offered) ++ reachedThen feed (a .h))) l0 (c .before .before .before .before .before .before .before .before .before .before .before .bytes .ensures) in
     let l2 = more (decimalThen space (a .accepted)) (decimalThen space (a .offered) ++ reachedThen feed (a .h)) l1 (c .before .before .before .before .before .before .before .put-decimal .ensures) in
     let l3 = more (decimalThen space (a .offered)) (reachedThen feed (a .h)) l2 (c .before .before .before .put-decimal2 .ensures) in
     l3 .room
@@ -51,7 +47,7 @@ unfolding endLine
 returns c =
     let a = c .before .before .before .before .before .before .before .before .before .before .before .before .before .before .before .before .before .before .args in
     let l0 = begin (endLine (a .accepted) (a .offered) (a .h)) (a .at) (a .buf .now) (c .before .before .before .before .before .before .before .before .before .before .before .before .before .before .before .before .before .before .pre) in
-    let l1 = more (0x65 ∷ 0x6E ∷ 0x64 ∷ space ∷ []) (decimalThen space (a .accepted) ++ (decimalThen space (a .offered) ++ reachedThen feed (a .h))) l0 (c .before .before .before .before .before .before .before .before .before .before .before .before .before .before .put-bytes .ensures) in
+    let l1 = put-more (0x65 ∷ 0x6E ∷ 0x64 ∷ space ∷ []) (decimalThen space (a .accepted) ++ (decimalThen space (a .offered) ++ reachedThen feed (a .h))) l0 (c .before .before .before .before .before .before .before .before .before .before .before .before .before .before .bytes .ensures) in
     let l2 = more (decimalThen space (a .accepted)) (decimalThen space (a .offered) ++ reachedThen feed (a .h)) l1 (c .before .before .before .before .before .before .before .before .before .before .put-decimal .ensures) in
     let l3 = more (decimalThen space (a .offered)) (reachedThen feed (a .h)) l2 (c .before .before .before .before .before .before .put-decimal2 .ensures) in
     last (reachedThen feed (a .h)) l3 (c .before .before .put-reached .ensures)
@@ -60,8 +56,8 @@ pub put-counts-spec : {M : Type 1} → statement M
 put-counts-spec =
     tie.close
     (tie.spec
-    slice-aggregate-put-bytes
-    put-bytes-requires
+    slice-aggregate-bytes
+    bytes-requires
     put-decimal-requires
     put-decimal-requires-2
     put-reached-requires

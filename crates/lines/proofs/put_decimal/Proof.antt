@@ -1,4 +1,4 @@
-use Rattle.snapshot.proofs.Laws.{begin, fits, more, last}
+use Rattle.writer.proofs.Laws.{begin, fits, more, put-last}
 use Rattle.lines.specs.Lines.{decimal, decimalThen}
 use mathlib.Core.List.{[], _∷_}
 use Prim.Native.Nat.{_-_}
@@ -13,16 +13,8 @@ put-numeral-requires c κs =
     let l0 = begin (decimalThen (a .behind) (a .n)) (a .at) (a .buf .now) (c .before .before .pre) in
     (search needs, (search needs, fits (decimal (a .n)) _ l0))
 
-slice-aggregate-put-bytes : tie.Need-slice-aggregate-put-bytes
-slice-aggregate-put-bytes c = search needs
-
-put-bytes-requires : tie.Need-put-bytes-requires
-unfolding decimalThen decimal
-put-bytes-requires c κs =
-    let a = c .before .before .before .before .before .before .before .args in
-    let l0 = begin (decimalThen (a .behind) (a .n)) (a .at) (a .buf .now) (c .before .before .before .before .before .before .before .pre) in
-    let l1 = more (decimal (a .n)) (a .behind ∷ []) l0 (c .before .before .before .before .put-numeral .ensures) in
-    l1 .room
+byte-requires : tie.Need-byte-requires
+byte-requires c κs = search needs
 
 same-length : tie.Need-same-length
 same-length c = search needs
@@ -30,17 +22,16 @@ same-length c = search needs
 returns : tie.Need-returns
 unfolding decimalThen decimal
 returns c =
-    let a = c .before .before .before .before .before .before .before .before .before .before .args in
-    let l0 = begin (decimalThen (a .behind) (a .n)) (a .at) (a .buf .now) (c .before .before .before .before .before .before .before .before .before .before .pre) in
-    let l1 = more (decimal (a .n)) (a .behind ∷ []) l0 (c .before .before .before .before .before .before .before .put-numeral .ensures) in
-    last _ l1 (c .before .before .put-bytes .ensures)
+    let a = c .before .before .before .before .before .before .before .before .before .args in
+    let l0 = begin (decimalThen (a .behind) (a .n)) (a .at) (a .buf .now) (c .before .before .before .before .before .before .before .before .before .pre) in
+    let l1 = more (decimal (a .n)) (a .behind ∷ []) l0 (c .before .before .before .before .before .before .put-numeral .ensures) in
+    put-last _ l1 (c .before .before .byte .ensures)
 
 pub put-decimal-spec : {M : Type 1} → statement M
 put-decimal-spec =
     tie.close
     (tie.spec
     put-numeral-requires
-    slice-aggregate-put-bytes
-    put-bytes-requires
+    byte-requires
     same-length
     returns)

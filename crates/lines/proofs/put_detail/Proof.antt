@@ -1,4 +1,4 @@
-use Rattle.snapshot.proofs.Laws.{begin, fits, more, last}
+use Rattle.writer.proofs.Laws.{begin, fits, more, put-last}
 use Rattle.lines.specs.Lines.{detail, detailThen}
 use mathlib.Core.List.{[], _∷_}
 use Prim.Native.Nat.{_-_}
@@ -13,16 +13,8 @@ put-words-requires c κs =
     let l0 = begin (detailThen (a .behind) (a .x)) (a .at) (a .buf .now) (c .before .before .pre) in
     fits (detail (a .x)) _ l0
 
-slice-aggregate-put-bytes : tie.Need-slice-aggregate-put-bytes
-slice-aggregate-put-bytes c = search needs
-
-put-bytes-requires : tie.Need-put-bytes-requires
-unfolding detailThen
-put-bytes-requires c κs =
-    let a = c .before .before .before .before .before .before .before .args in
-    let l0 = begin (detailThen (a .behind) (a .x)) (a .at) (a .buf .now) (c .before .before .before .before .before .before .before .pre) in
-    let l1 = more (detail (a .x)) (a .behind ∷ []) l0 (c .before .before .before .before .put-words .ensures) in
-    l1 .room
+byte-requires : tie.Need-byte-requires
+byte-requires c κs = search needs
 
 same-length : tie.Need-same-length
 same-length c = search needs
@@ -30,12 +22,12 @@ same-length c = search needs
 returns : tie.Need-returns
 unfolding detailThen
 returns c =
-    let a = c .before .before .before .before .before .before .before .before .before .before .args in
-    let l0 = begin (detailThen (a .behind) (a .x)) (a .at) (a .buf .now) (c .before .before .before .before .before .before .before .before .before .before .pre) in
-    let l1 = more (detail (a .x)) (a .behind ∷ []) l0 (c .before .before .before .before .before .before .before .put-words .ensures) in
-    last _ l1 (c .before .before .put-bytes .ensures)
+    let a = c .before .before .before .before .before .before .before .before .before .args in
+    let l0 = begin (detailThen (a .behind) (a .x)) (a .at) (a .buf .now) (c .before .before .before .before .before .before .before .before .before .pre) in
+    let l1 = more (detail (a .x)) (a .behind ∷ []) l0 (c .before .before .before .before .before .before .put-words .ensures) in
+    put-last _ l1 (c .before .before .byte .ensures)
 
 pub put-detail-spec : {M : Type 1} → statement M
 put-detail-spec =
     tie.close
-    (tie.spec put-words-requires slice-aggregate-put-bytes put-bytes-requires same-length returns)
+    (tie.spec put-words-requires byte-requires same-length returns)

@@ -1,7 +1,8 @@
 use native.Mathlib.Nat.{mod-lt}
-use Rattle.lines.proofs.Laws.{length-digits, digits-less, digits-end}
+use Rattle.lines.proofs.Laws.{digits-made, length-digits}
+use Rattle.writer.proofs.Laws.{digits-less, digits-end}
 use Rattle.lines.specs.Lines.{digits}
-use Rattle.snapshot.specs.Bytes.{over}
+use Rattle.writer.specs.Writing.{over}
 use mathlib.Core.Path.{_≡_}
 use Prim.Native.Nat.{_+_, _≤_, _<_, _-_, _%_}
 use native.Mathlib.Omega.{arith}
@@ -44,7 +45,7 @@ loop-again : tie.Need-loop-again Inv-loop μ-loop
 loop-again c =
     let a = c .before .before .before .before .args in
     let l = c .before .before .loop in
-    (search needs, search needs, search needs, rw (c .glyph .ensures) (digits-less _ (a .at) (l .buf) (a .base) (l .i) (l .rest) (omega arith) (omega arith) (l .inv .3)))
+    (search needs, search needs, search needs, rw (c .glyph .ensures) (digits-less (digits-made (a .base)) _ (a .at) (l .buf) (l .i) (l .rest) (omega arith) (omega arith) (l .inv .3)))
 
 add-result : tie.Need-add-result Inv-loop μ-loop
 add-result c = search needs
@@ -53,7 +54,7 @@ same-length : tie.Need-same-length Inv-loop μ-loop
 same-length c = search needs
 
 returns : tie.Need-returns Inv-loop μ-loop
-returns c = let l = c .before .loop in digits-end _ _ _ _ _ _ (l .i) (l .rest) (omega arith) (l .inv .3)
+returns c = let l = c .before .loop in digits-end (digits-made _) _ _ _ _ _ (l .i) (l .rest) (omega arith) (l .inv .3)
 
 pub put-digits-spec : {M : Type 1} → statement M
 put-digits-spec =

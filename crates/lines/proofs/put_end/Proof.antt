@@ -7,8 +7,8 @@ use borrow.Author.Needs.{needs}
 use Rattle.lines.proofs.put_end.Statement.{statement}
 use Rattle.lines.proofs.put_end.Tie as tie
 
-is-room-requires : tie.Need-is-room-requires
-is-room-requires c κs = search needs
+room-requires : tie.Need-room-requires
+room-requires c κs = search needs
 
 same-length : tie.Need-same-length
 same-length c = search needs
@@ -16,12 +16,12 @@ same-length c = search needs
 returns : tie.Need-returns
 returns c =
     let a = c .before .before .before .before .args in
-    nothing (endLine (a .accepted) (a .offered) (a .h)) (a .at) (a .buf .now) (sym (c .before .is-room .ensures) ∙ not-true (c .before .is-room .result) (c .if1 .taken))
+    nothing (endLine (a .accepted) (a .offered) (a .h)) (a .at) (a .buf .now) (sym (c .before .room .ensures) ∙ not-true (c .before .room .result) (c .if1 .taken))
 
 put-counts-requires : tie.Need-put-counts-requires
 put-counts-requires c κs =
     let a = c .before .before .before .before .before .args in
-    let t = sym (c .before .before .is-room .ensures) ∙ not-false (c .before .before .is-room .result) (c .before .if1 .left) in
+    let t = sym (c .before .before .room .ensures) ∙ not-false (c .before .before .room .result) (c .before .if1 .left) in
     fits (endLine (a .accepted) (a .offered) (a .h)) (a .at) (a .buf .now) (end-few (a .accepted) (a .offered) (a .h)) (leb-true _ _ t)
 
 same-length-2 : tie.Need-same-length-2
@@ -30,10 +30,10 @@ same-length-2 c = search needs
 returns-2 : tie.Need-returns-2
 returns-2 c =
     let a = c .before .before .before .before .before .before .before .before .args in
-    let t = sym (c .before .before .before .before .before .is-room .ensures) ∙ not-false (c .before .before .before .before .before .is-room .result) (c .before .before .before .before .if1 .left) in
+    let t = sym (c .before .before .before .before .before .room .ensures) ∙ not-false (c .before .before .before .before .before .room .result) (c .before .before .before .before .if1 .left) in
     here (endLine (a .accepted) (a .offered) (a .h)) (a .at) (a .buf .now) _ _ t (c .before .before .put-counts .ensures)
 
 pub put-end-spec : {M : Type 1} → statement M
 put-end-spec =
     tie.close
-    (tie.spec is-room-requires same-length returns put-counts-requires same-length-2 returns-2)
+    (tie.spec room-requires same-length returns put-counts-requires same-length-2 returns-2)

@@ -1,4 +1,4 @@
-use Rattle.snapshot.proofs.Laws.{same-bytes}
+use Rattle.writer.proofs.Laws.{same-bytes}
 use Rattle.lines.proofs.Laws.{numeral-digits, length-digits}
 use Rattle.lines.specs.Lines.{numeral, digits}
 use mathlib.Core.Path.{_≡_, sym}

@@ -1,4 +1,4 @@
-use Rattle.snapshot.proofs.Laws.{same-bytes}
+use Rattle.writer.proofs.Laws.{same-bytes, same-room, wrote}
 use Rattle.lines.proofs.Laws.{reached-held, reached-empty}
 use Rattle.state.proofs.Laws.{is-held}
 use borrow.Author.Tests.{not-true, not-false}
@@ -9,14 +9,11 @@ use borrow.Author.Needs.{needs}
 use Rattle.lines.proofs.put_reached.Statement.{statement}
 use Rattle.lines.proofs.put_reached.Tie as tie
 
-slice-aggregate-put-bytes : tie.Need-slice-aggregate-put-bytes
-slice-aggregate-put-bytes c = search needs
+slice-aggregate-bytes : tie.Need-slice-aggregate-bytes
+slice-aggregate-bytes c = search needs
 
-put-bytes-requires : tie.Need-put-bytes-requires
-put-bytes-requires c κs =
-    let a = c .before .before .before .before .args in
-    let e = reached-empty (a .behind) (a .h) (is-held (a .h) false (not-true (a .h .held) (c .before .before .if1 .taken))) in
-    rw e at (c .before .before .before .before .pre)
+bytes-requires : tie.Need-bytes-requires
+bytes-requires c κs = search needs
 
 same-length : tie.Need-same-length
 same-length c = search needs
@@ -25,7 +22,7 @@ returns : tie.Need-returns
 returns c =
     let a = c .before .before .before .before .before .before .before .args in
     let e = reached-empty (a .behind) (a .h) (is-held (a .h) false (not-true (a .h .held) (c .before .before .before .before .before .if1 .taken))) in
-    same-bytes (sym e) (c .before .before .put-bytes .ensures)
+    same-bytes (sym e) (wrote _ _ _ (same-room (a .at) (a .buf .now) e (c .before .before .before .before .before .before .before .pre)) (c .before .before .bytes .ensures))
 
 put-detail-requires : tie.Need-put-detail-requires
 put-detail-requires c κs =
@@ -46,8 +43,8 @@ pub put-reached-spec : {M : Type 1} → statement M
 put-reached-spec =
     tie.close
     (tie.spec
-    slice-aggregate-put-bytes
-    put-bytes-requires
+    slice-aggregate-bytes
+    bytes-requires
     same-length
     returns
     put-detail-requires

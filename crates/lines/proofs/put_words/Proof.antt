@@ -1,4 +1,4 @@
-use Rattle.snapshot.proofs.Laws.{begin, fits, more, last, same-bytes}
+use Rattle.writer.proofs.Laws.{same-bytes, begin, fits, more, last}
 use Rattle.lines.proofs.Laws.{detail-short, detail-long}
 use Rattle.lines.specs.Lines.{numeral, digits}
 use mathlib.Core.Path.{sym}

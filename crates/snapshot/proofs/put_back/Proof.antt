@@ -1,10 +1,8 @@
-use mathlib.Core.Path.{ap}
 use borrow.Author.Needs.{needs}
-use Prim.Native.Nat.{ℕ}
 use mathlib.Core.List.{[], _∷_}
-use Rattle.snapshot.specs.Bytes.{be, itemsBytes, configBytes, flagByte}
+use Rattle.snapshot.specs.Bytes.{itemsBytes, configBytes, flagByte}
 use Rattle.snapshot.specs.Assembled.{backBytes}
-use Rattle.snapshot.proofs.Laws.{same-bytes, begin, fits, more, last}
+use Rattle.writer.proofs.Laws.{begin, fits, more, put-more, put-last}
 use Rattle.snapshot.proofs.put_back.Statement.{statement}
 use Rattle.snapshot.proofs.put_back.Tie as tie
 
@@ -19,17 +17,11 @@ put-items-requires c κs =
     let l0 = begin (backBytes (a .w) (a .c) (a .transferable) (a .last .now)) (a .at) (a .buf .now) (s .pre .1 .1) in
     (s .pre .0, fits (itemsBytes (a .w .witnesses)) _ l0)
 
-cast-put-number : tie.Need-cast-put-number
-cast-put-number c = search needs
+cast-number : tie.Need-cast-number
+cast-number c = search needs
 
-put-number-requires : tie.Need-put-number-requires
-unfolding backBytes
-put-number-requires c κs =
-    let s = c .before .before .before .before .before .before .before .before .before in
-    let a = s .args in
-    let l0 = begin (backBytes (a .w) (a .c) (a .transferable) (a .last .now)) (a .at) (a .buf .now) (s .pre .1 .1) in
-    let l1 = more _ _ l0 (c .before .before .before .put-items .ensures) in
-    fits (be 4 (a .w .toad)) _ l1
+number-requires : tie.Need-number-requires
+number-requires c κs = search needs
 
 put-config-requires : tie.Need-put-config-requires
 unfolding backBytes
@@ -38,31 +30,14 @@ put-config-requires c κs =
     let a = s .args in
     let l0 = begin (backBytes (a .w) (a .c) (a .transferable) (a .last .now)) (a .at) (a .buf .now) (s .pre .1 .1) in
     let l1 = more _ _ l0 (c .before .before .before .before .before .before .before .put-items .ensures) in
-    let l2 = more _ _ l1 (c .before .before .before .put-number .ensures) in
+    let l2 = put-more _ _ l1 (c .before .before .before .number .ensures) in
     (s .pre .1 .0, fits (configBytes (a .c)) _ l2)
 
-put-byte-requires : tie.Need-put-byte-requires
-unfolding backBytes
-put-byte-requires c κs =
-    let s = c .before .before .before .before .before .before .before .before .before .before .before .before .before .before .before .before .before in
-    let a = s .args in
-    let l0 = begin (backBytes (a .w) (a .c) (a .transferable) (a .last .now)) (a .at) (a .buf .now) (s .pre .1 .1) in
-    let l1 = more _ _ l0 (c .before .before .before .before .before .before .before .before .before .before .before .put-items .ensures) in
-    let l2 = more _ _ l1 (c .before .before .before .before .before .before .before .put-number .ensures) in
-    let l3 = more _ _ l2 (c .before .before .before .put-config .ensures) in
-    fits (flagByte (a .transferable) ∷ []) _ l3
+byte-requires : tie.Need-byte-requires
+byte-requires c κs = search needs
 
-put-bytes-requires : tie.Need-put-bytes-requires
-unfolding backBytes
-put-bytes-requires c κs =
-    let s = c .before .before .before .before .before .before .before .before .before .before .before .before .before .before .before .before .before .before .before .before .before in
-    let a = s .args in
-    let l0 = begin (backBytes (a .w) (a .c) (a .transferable) (a .last .now)) (a .at) (a .buf .now) (s .pre .1 .1) in
-    let l1 = more _ _ l0 (c .before .before .before .before .before .before .before .before .before .before .before .before .before .before .before .put-items .ensures) in
-    let l2 = more _ _ l1 (c .before .before .before .before .before .before .before .before .before .before .before .put-number .ensures) in
-    let l3 = more _ _ l2 (c .before .before .before .before .before .before .before .put-config .ensures) in
-    let l4 = more (flagByte (a .transferable) ∷ []) _ l3 (same-bytes (ap (λ (b : ℕ). b ∷ []) (c .before .before .before .before .before .before .before .before .before .before .before .before .before .before .before .before .before .flag-byte .ensures)) (c .before .before .before .put-byte .ensures)) in
-    l4 .room
+bytes-requires : tie.Need-bytes-requires
+bytes-requires c κs = search needs
 
 same-length : tie.Need-same-length
 same-length c = search needs
@@ -74,10 +49,10 @@ returns c =
     let a = s .args in
     let l0 = begin (backBytes (a .w) (a .c) (a .transferable) (a .last .now)) (a .at) (a .buf .now) (s .pre .1 .1) in
     let l1 = more _ _ l0 (c .before .before .before .before .before .before .before .before .before .before .before .before .before .before .before .before .before .before .put-items .ensures) in
-    let l2 = more _ _ l1 (c .before .before .before .before .before .before .before .before .before .before .before .before .before .before .put-number .ensures) in
+    let l2 = put-more _ _ l1 (c .before .before .before .before .before .before .before .before .before .before .before .before .before .before .number .ensures) in
     let l3 = more _ _ l2 (c .before .before .before .before .before .before .before .before .before .before .put-config .ensures) in
-    let l4 = more (flagByte (a .transferable) ∷ []) _ l3 (same-bytes (ap (λ (b : ℕ). b ∷ []) (c .before .before .before .before .before .before .before .before .before .before .before .before .before .before .before .before .before .before .before .before .flag-byte .ensures)) (c .before .before .before .before .before .before .put-byte .ensures)) in
-    last _ l4 (c .before .before .put-bytes .ensures)
+    let l4 = put-more (flagByte (a .transferable) ∷ []) _ l3 (rw (c .before .before .before .before .before .before .before .before .before .before .before .before .before .before .before .before .before .before .before .before .flag-byte .ensures) at (c .before .before .before .before .before .before .byte .ensures)) in
+    put-last _ l4 (c .before .before .bytes .ensures)
 
 pub put-back-spec : {M : Type 1} → statement M
 put-back-spec =
@@ -85,10 +60,10 @@ put-back-spec =
     (tie.spec
     flag-byte-requires
     put-items-requires
-    cast-put-number
-    put-number-requires
+    cast-number
+    number-requires
     put-config-requires
-    put-byte-requires
-    put-bytes-requires
+    byte-requires
+    bytes-requires
     same-length
     returns)

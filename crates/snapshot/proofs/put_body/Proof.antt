@@ -1,9 +1,8 @@
 use borrow.Author.Needs.{needs}
-use mathlib.Core.List.{[], _∷_}
 use Rattle.snapshot.specs.Saved.{headBytes, groupBytes, bodyBytes}
 use Rattle.items.proofs.Laws as items
 use Rattle.snapshot.proofs.Shapes.{good-state}
-use Rattle.snapshot.proofs.Laws.{begin, fits, more, last}
+use Rattle.writer.proofs.Laws.{begin, fits, more, last, put-more}
 use Rattle.snapshot.proofs.put_body.Statement.{statement}
 use Rattle.snapshot.proofs.put_body.Tie as tie
 
@@ -15,14 +14,8 @@ put-head-requires c κs =
     let l0 = begin (bodyBytes (a .s)) (a .at) (a .buf .now) (s .pre .1) in
     fits (headBytes (a .s)) _ l0
 
-put-byte-requires : tie.Need-put-byte-requires
-unfolding bodyBytes
-put-byte-requires c κs =
-    let s = c .before .before .before .before .before .before .before .before .before .before .before .before in
-    let a = s .args in
-    let l0 = begin (bodyBytes (a .s)) (a .at) (a .buf .now) (s .pre .1) in
-    let l1 = more _ _ l0 (c .before .before .before .put-head .ensures) in
-    fits (a .s .latest ∷ []) _ l1
+byte-requires : tie.Need-byte-requires
+byte-requires c κs = search needs
 
 put-group-requires : tie.Need-put-group-requires
 unfolding bodyBytes
@@ -31,7 +24,7 @@ put-group-requires c κs =
     let a = s .args in
     let l0 = begin (bodyBytes (a .s)) (a .at) (a .buf .now) (s .pre .1) in
     let l1 = more _ _ l0 (c .before .before .before .before .before .before .before .put-head .ensures) in
-    let l2 = more _ _ l1 (c .before .before .before .put-byte .ensures) in
+    let l2 = put-more _ _ l1 (c .before .before .before .byte .ensures) in
     let g = good-state (a .s) (s .pre .0) in
     (items.good _ _ (g .keys) .few, (g .own, fits (groupBytes (a .s .authority .keys) (a .s .authority .threshold)) _ l2))
 
@@ -42,7 +35,7 @@ put-group-requires-2 c κs =
     let a = s .args in
     let l0 = begin (bodyBytes (a .s)) (a .at) (a .buf .now) (s .pre .1) in
     let l1 = more _ _ l0 (c .before .before .before .before .before .before .before .before .before .before .before .put-head .ensures) in
-    let l2 = more _ _ l1 (c .before .before .before .before .before .before .before .put-byte .ensures) in
+    let l2 = put-more _ _ l1 (c .before .before .before .before .before .before .before .byte .ensures) in
     let l3 = more _ _ l2 (c .before .before .before .put-group .ensures) in
     let g = good-state (a .s) (s .pre .0) in
     (items.good _ _ (g .next) .few, (g .committed, fits (groupBytes (a .s .commitment .next) (a .s .commitment .threshold)) _ l3))
@@ -54,7 +47,7 @@ put-tail-requires c κs =
     let a = s .args in
     let l0 = begin (bodyBytes (a .s)) (a .at) (a .buf .now) (s .pre .1) in
     let l1 = more _ _ l0 (c .before .before .before .before .before .before .before .before .before .before .before .before .before .before .before .put-head .ensures) in
-    let l2 = more _ _ l1 (c .before .before .before .before .before .before .before .before .before .before .before .put-byte .ensures) in
+    let l2 = put-more _ _ l1 (c .before .before .before .before .before .before .before .before .before .before .before .byte .ensures) in
     let l3 = more _ _ l2 (c .before .before .before .before .before .before .before .put-group .ensures) in
     let l4 = more _ _ l3 (c .before .before .before .put-group2 .ensures) in
     (s .pre .0, l4 .room)
@@ -69,7 +62,7 @@ returns c =
     let a = s .args in
     let l0 = begin (bodyBytes (a .s)) (a .at) (a .buf .now) (s .pre .1) in
     let l1 = more _ _ l0 (c .before .before .before .before .before .before .before .before .before .before .before .before .before .before .before .before .before .before .put-head .ensures) in
-    let l2 = more _ _ l1 (c .before .before .before .before .before .before .before .before .before .before .before .before .before .before .put-byte .ensures) in
+    let l2 = put-more _ _ l1 (c .before .before .before .before .before .before .before .before .before .before .before .before .before .before .byte .ensures) in
     let l3 = more _ _ l2 (c .before .before .before .before .before .before .before .before .before .before .put-group .ensures) in
     let l4 = more _ _ l3 (c .before .before .before .before .before .before .put-group2 .ensures) in
     last _ l4 (c .before .before .put-tail .ensures)
@@ -79,7 +72,7 @@ put-body-spec =
     tie.close
     (tie.spec
     put-head-requires
-    put-byte-requires
+    byte-requires
     put-group-requires
     put-group-requires-2
     put-tail-requires

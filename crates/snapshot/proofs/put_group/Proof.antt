@@ -1,7 +1,7 @@
 use borrow.Author.Needs.{needs}
 use Rattle.snapshot.specs.Bytes.{itemsBytes}
 use Rattle.snapshot.specs.Saved.{groupBytes}
-use Rattle.snapshot.proofs.Laws.{begin, fits, more, last}
+use Rattle.writer.proofs.Laws.{begin, fits, more, last}
 use Rattle.snapshot.proofs.put_group.Statement.{statement}
 use Rattle.snapshot.proofs.put_group.Tie as tie
 

@@ -1,7 +1,7 @@
 use borrow.Author.Needs.{needs}
 use Rattle.snapshot.specs.Bytes.{itemBytes}
 use Rattle.snapshot.specs.Saved.{headBytes}
-use Rattle.snapshot.proofs.Laws.{begin, fits, more, last}
+use Rattle.writer.proofs.Laws.{begin, fits, more, last}
 use Rattle.snapshot.proofs.put_head.Statement.{statement}
 use Rattle.snapshot.proofs.put_head.Tie as tie
 

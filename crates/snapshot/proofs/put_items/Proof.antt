@@ -7,18 +7,20 @@ use lib.ListN.{length, drop, take, length-take}
 use Rattle.items.specs.declared.Items.{Items}
 use Rattle.items.specs.Items.{listed}
 use Rattle.items.proofs.Laws.{noItem, places-16}
-use Rattle.snapshot.specs.Bytes.{each, itemBytes, itemsBytes, Room, Wrote}
-use Rattle.snapshot.proofs.Laws.{Left, begin, fits, more, last, each-fits, each-more, each-done}
+use Rattle.writer.specs.Writing.{Room}
+use Rattle.snapshot.specs.Bytes.{each, itemBytes, itemsBytes}
+use Rattle.writer.proofs.Laws.{Put, Left, begin, last, put-more}
+use Rattle.snapshot.proofs.Laws.{each-fits, each-more, each-done}
 use Rattle.snapshot.proofs.put_items.Statement.{statement}
 use Rattle.snapshot.proofs.put_items.Tie as tie
 
 -- the count byte is there
 behind-count : (l : Items) (at : ℕ) (b : List ℕ) (p : ℕ) (b' : List ℕ) → length (l .at) ≡ 16 → l .count ≤ 16 → Room (itemsBytes l) at b
-    → Wrote (l .count ∷ []) at b p b' → Left (itemsBytes l) at b (each itemBytes (listed l)) p b'
+    → Put (l .count ∷ []) at b p b' → Left (itemsBytes l) at b (each itemBytes (listed l)) p b'
 unfolding itemsBytes
 behind-count l at b p b' h g r w =
     let n : length (listed l) ≡ l .count = simp length-take (omega arith) in
-    more (length (listed l) ∷ []) (each itemBytes (listed l)) (begin (itemsBytes l) at b r) (rw n w)
+    put-more (length (listed l) ∷ []) (each itemBytes (listed l)) (begin (itemsBytes l) at b r) (rw n w)
 
 abbrev Inv-loop : tie.InvT-loop
 Inv-loop buf₀ at n places p₀ i₀ buf p i =
@@ -28,22 +30,18 @@ Inv-loop buf₀ at n places p₀ i₀ buf p i =
 abbrev μ-loop : tie.MeasureT-loop
 μ-loop buf₀ at n places p₀ i₀ buf p i = n - i
 
-cast-put-byte : tie.Need-cast-put-byte Inv-loop μ-loop
-cast-put-byte c = search needs
+cast-byte : tie.Need-cast-byte Inv-loop μ-loop
+cast-byte c = search needs
 
-put-byte-requires : tie.Need-put-byte-requires Inv-loop μ-loop
-unfolding itemsBytes
-put-byte-requires c κs =
-    let s = c .before .before .before in
-    let a = s .args in
-    fits (length (listed (a .l)) ∷ []) (each itemBytes (listed (a .l))) (begin (itemsBytes (a .l)) (a .at) (a .buf .now) (s .pre .1))
+byte-requires : tie.Need-byte-requires Inv-loop μ-loop
+byte-requires c κs = search needs
 
 loop-holds : tie.Need-loop-holds Inv-loop μ-loop
 loop-holds c =
     let s = c .before .before .before .before .before .before in
     let a = s .args in
     let h : length (a .l .at) ≡ 16 = places-16 (a .l) _ (s .good .1 .1 .0) in
-    let l = behind-count (a .l) (a .at) (a .buf .now) _ _ h (s .pre .0) (s .pre .1) (c .before .before .put-byte .ensures) in
+    let l = behind-count (a .l) (a .at) (a .buf .now) _ _ h (s .pre .0) (s .pre .1) (c .before .before .byte .ensures) in
     (search needs, s .pre .0, h, refl, begin _ _ _ (l .room))
 
 mul-x : tie.Need-mul-x Inv-loop μ-loop
@@ -85,7 +83,7 @@ returns c =
     let a = s .args in
     let l = c .before .loop in
     let h : length (a .l .at) ≡ 16 = l .inv .2 in
-    let f = behind-count (a .l) (a .at) (a .buf .now) _ _ h (s .pre .0) (s .pre .1) (c .before .before .before .before .put-byte .ensures) in
+    let f = behind-count (a .l) (a .at) (a .buf .now) _ _ h (s .pre .0) (s .pre .1) (c .before .before .before .before .byte .ensures) in
     last (each itemBytes (listed (a .l))) f (each-done itemBytes (a .l .at) (a .l .count) (l .i) (l .inv .4) (omega arith))
 
 pub put-items-spec : {M : Type 1} → statement M
@@ -94,8 +92,8 @@ put-items-spec =
     (tie.spec
     Inv-loop
     μ-loop
-    cast-put-byte
-    put-byte-requires
+    cast-byte
+    byte-requires
     loop-holds
     mul-x
     array-copy-out-x

@@ -1,7 +1,7 @@
 use borrow.Author.Needs.{needs}
 use Rattle.snapshot.specs.Bytes.{wordsBytes}
 use Rattle.snapshot.specs.Saved.{pointBytes}
-use Rattle.snapshot.proofs.Laws.{begin, fits, more, last}
+use Rattle.writer.proofs.Laws.{begin, fits, more, last}
 use Rattle.snapshot.proofs.put_point.Statement.{statement}
 use Rattle.snapshot.proofs.put_point.Tie as tie
 

@@ -1,15 +1,13 @@
-use mathlib.Core.Path.{ap}
 use borrow.Author.Needs.{needs}
-use Prim.Native.Nat.{ℕ}
 use native.Mathlib.Omega.{arith}
 use mathlib.Core.List.{[], _∷_}
-use Rattle.snapshot.specs.Bytes.{be, itemsBytes, configBytes, flagByte}
+use Rattle.snapshot.specs.Bytes.{itemsBytes, configBytes, flagByte}
 use Rattle.snapshot.specs.Saved.{tailBytes}
 use Rattle.items.proofs.Laws as items
 use Rattle.config.proofs.Laws as config
 use Rattle.snapshot.proofs.Shapes.{good-state}
 use Rattle.snapshot.proofs.Real.{real-state}
-use Rattle.snapshot.proofs.Laws.{same-bytes, begin, fits, more, last}
+use Rattle.writer.proofs.Laws.{begin, fits, more, last, put-more}
 use Rattle.snapshot.proofs.put_tail.Statement.{statement}
 use Rattle.snapshot.proofs.put_tail.Tie as tie
 
@@ -25,19 +23,13 @@ put-items-requires c κs =
     let g = good-state (a .s) (s .pre .0) in
     (items.good _ _ (g .witnesses) .few, fits (itemsBytes (a .s .witnessing .witnesses)) _ l0)
 
-cast-put-number : tie.Need-cast-put-number
-cast-put-number c =
+cast-number : tie.Need-cast-number
+cast-number c =
     let s = c .before .before .before .before .before .before .before .before .before .before .before .before .before in
     omega (arith, real-state (s .args .s) _ (s .good .1 .1 .0) .toad)
 
-put-number-requires : tie.Need-put-number-requires
-unfolding tailBytes
-put-number-requires c κs =
-    let s = c .before .before .before .before .before .before .before .before .before .before .before .before .before in
-    let a = s .args in
-    let l0 = begin (tailBytes (a .s)) (a .at) (a .buf .now) (s .pre .1) in
-    let l1 = more _ _ l0 (c .before .before .before .put-items .ensures) in
-    fits (be 4 (a .s .witnessing .toad)) _ l1
+number-requires : tie.Need-number-requires
+number-requires c κs = search needs
 
 put-config-requires : tie.Need-put-config-requires
 unfolding tailBytes
@@ -46,20 +38,12 @@ put-config-requires c κs =
     let a = s .args in
     let l0 = begin (tailBytes (a .s)) (a .at) (a .buf .now) (s .pre .1) in
     let l1 = more _ _ l0 (c .before .before .before .before .before .before .before .put-items .ensures) in
-    let l2 = more _ _ l1 (c .before .before .before .put-number .ensures) in
+    let l2 = put-more _ _ l1 (c .before .before .before .number .ensures) in
     let g = good-state (a .s) (s .pre .0) in
     (config.good _ (g .config) .few, fits (configBytes (a .s .config)) _ l2)
 
-put-byte-requires : tie.Need-put-byte-requires
-unfolding tailBytes
-put-byte-requires c κs =
-    let s = c .before .before .before .before .before .before .before .before .before .before .before .before .before .before .before .before .before .before .before .before .before in
-    let a = s .args in
-    let l0 = begin (tailBytes (a .s)) (a .at) (a .buf .now) (s .pre .1) in
-    let l1 = more _ _ l0 (c .before .before .before .before .before .before .before .before .before .before .before .put-items .ensures) in
-    let l2 = more _ _ l1 (c .before .before .before .before .before .before .before .put-number .ensures) in
-    let l3 = more _ _ l2 (c .before .before .before .put-config .ensures) in
-    fits (flagByte (a .s .transferable) ∷ []) _ l3
+byte-requires : tie.Need-byte-requires
+byte-requires c κs = search needs
 
 put-point-requires : tie.Need-put-point-requires
 unfolding tailBytes
@@ -68,9 +52,9 @@ put-point-requires c κs =
     let a = s .args in
     let l0 = begin (tailBytes (a .s)) (a .at) (a .buf .now) (s .pre .1) in
     let l1 = more _ _ l0 (c .before .before .before .before .before .before .before .before .before .before .before .before .before .before .before .put-items .ensures) in
-    let l2 = more _ _ l1 (c .before .before .before .before .before .before .before .before .before .before .before .put-number .ensures) in
+    let l2 = put-more _ _ l1 (c .before .before .before .before .before .before .before .before .before .before .before .number .ensures) in
     let l3 = more _ _ l2 (c .before .before .before .before .before .before .before .put-config .ensures) in
-    let l4 = more (flagByte (a .s .transferable) ∷ []) _ l3 (same-bytes (ap (λ (b : ℕ). b ∷ []) (c .before .before .before .before .before .before .before .before .before .before .before .before .before .before .before .before .before .flag-byte .ensures)) (c .before .before .before .put-byte .ensures)) in
+    let l4 = put-more (flagByte (a .s .transferable) ∷ []) _ l3 (rw (c .before .before .before .before .before .before .before .before .before .before .before .before .before .before .before .before .before .flag-byte .ensures) at (c .before .before .before .byte .ensures)) in
     l4 .room
 
 same-length : tie.Need-same-length
@@ -83,9 +67,9 @@ returns c =
     let a = s .args in
     let l0 = begin (tailBytes (a .s)) (a .at) (a .buf .now) (s .pre .1) in
     let l1 = more _ _ l0 (c .before .before .before .before .before .before .before .before .before .before .before .before .before .before .before .before .before .before .put-items .ensures) in
-    let l2 = more _ _ l1 (c .before .before .before .before .before .before .before .before .before .before .before .before .before .before .put-number .ensures) in
+    let l2 = put-more _ _ l1 (c .before .before .before .before .before .before .before .before .before .before .before .before .before .before .number .ensures) in
     let l3 = more _ _ l2 (c .before .before .before .before .before .before .before .before .before .before .put-config .ensures) in
-    let l4 = more (flagByte (a .s .transferable) ∷ []) _ l3 (same-bytes (ap (λ (b : ℕ). b ∷ []) (c .before .before .before .before .before .before .before .before .before .before .before .before .before .before .before .before .before .before .before .before .flag-byte .ensures)) (c .before .before .before .before .before .before .put-byte .ensures)) in
+    let l4 = put-more (flagByte (a .s .transferable) ∷ []) _ l3 (rw (c .before .before .before .before .before .before .before .before .before .before .before .before .before .before .before .before .before .before .before .before .flag-byte .ensures) at (c .before .before .before .before .before .before .byte .ensures)) in
     last _ l4 (c .before .before .put-point .ensures)
 
 pub put-tail-spec : {M : Type 1} → statement M
@@ -94,10 +78,10 @@ put-tail-spec =
     (tie.spec
     flag-byte-requires
     put-items-requires
-    cast-put-number
-    put-number-requires
+    cast-number
+    number-requires
     put-config-requires
-    put-byte-requires
+    byte-requires
     put-point-requires
     same-length
     returns)

@@ -4,30 +4,20 @@ use mathlib.Core.List.{[], _∷_, _++_}
 use native.Mathlib.Omega.{arith}
 use lib.ListN.{take, length-take}
 use Rattle.threshold.specs.Threshold.{sizesOf, weightsIn}
-use Rattle.snapshot.specs.Bytes.{be, counted, each, weightBytes, Room}
-use Rattle.snapshot.proofs.Laws.{begin, fits, more, last, simple-bytes, weighted-bytes}
+use Rattle.writer.specs.Writing.{be, Room}
+use Rattle.snapshot.specs.Bytes.{counted, each, weightBytes}
+use Rattle.writer.proofs.Laws.{begin, fits, more, last, put-more, put-last}
+use Rattle.snapshot.proofs.Laws.{simple-bytes, weighted-bytes}
 use Rattle.snapshot.proofs.Shapes.{is-weighted}
 use Rattle.snapshot.proofs.Real.{real-threshold}
 use Rattle.snapshot.proofs.put_threshold.Statement.{statement}
 use Rattle.snapshot.proofs.put_threshold.Tie as tie
 
-put-byte-requires : tie.Need-put-byte-requires
-put-byte-requires c κs =
-    let s = c .before .before .before .before in
-    let a = s .args in
-    let e = simple-bytes (a .t) (c .before .if1 .taken) in
-    let r : Room ((0 ∷ []) ++ be 8 (a .t .simple)) (a .at) (a .buf .now) = rw e at (s .pre .1) in
-    let l0 = begin ((0 ∷ []) ++ be 8 (a .t .simple)) (a .at) (a .buf .now) r in
-    fits (0 ∷ []) (be 8 (a .t .simple)) l0
+byte-requires : tie.Need-byte-requires
+byte-requires c κs = search needs
 
-put-number-requires : tie.Need-put-number-requires
-put-number-requires c κs =
-    let s = c .before .before .before .before .before .before .before .before in
-    let a = s .args in
-    let e = simple-bytes (a .t) (c .before .before .before .before .before .if1 .taken) in
-    let r : Room ((0 ∷ []) ++ be 8 (a .t .simple)) (a .at) (a .buf .now) = rw e at (s .pre .1) in
-    let l0 = begin ((0 ∷ []) ++ be 8 (a .t .simple)) (a .at) (a .buf .now) r in
-    more (0 ∷ []) (be 8 (a .t .simple)) l0 (c .before .before .before .put-byte .ensures) .room
+number-requires : tie.Need-number-requires
+number-requires c κs = search needs
 
 same-length : tie.Need-same-length
 same-length c = search needs
@@ -39,22 +29,14 @@ returns c =
     let e = simple-bytes (a .t) (c .before .before .before .before .before .before .before .before .if1 .taken) in
     let r : Room ((0 ∷ []) ++ be 8 (a .t .simple)) (a .at) (a .buf .now) = rw e at (s .pre .1) in
     let l0 = begin ((0 ∷ []) ++ be 8 (a .t .simple)) (a .at) (a .buf .now) r in
-    let l1 = more (0 ∷ []) (be 8 (a .t .simple)) l0 (c .before .before .before .before .before .before .put-byte .ensures) in
-    rw e (last (be 8 (a .t .simple)) l1 (c .before .before .put-number .ensures))
+    let l1 = put-more (0 ∷ []) (be 8 (a .t .simple)) l0 (c .before .before .before .before .before .before .byte .ensures) in
+    rw e (put-last (be 8 (a .t .simple)) l1 (c .before .before .number .ensures))
 
 weights-in-requires : tie.Need-weights-in-requires
 weights-in-requires c κs = search needs
 
-put-byte-requires-2 : tie.Need-put-byte-requires-2
-put-byte-requires-2 c κs =
-    let s = c .before .before .before .before .before .before .before in
-    let a = s .args in
-    let total = c .before .weights-in .result in
-    let ws = each weightBytes (take total (a .t .weights)) in
-    let e = weighted-bytes (a .t) total (c .before .before .before .before .if1 .left) (c .before .weights-in .ensures) in
-    let r : Room ((1 ∷ []) ++ (counted (sizesOf (a .t)) ++ ws)) (a .at) (a .buf .now) = rw e at (s .pre .1) in
-    let l0 = begin ((1 ∷ []) ++ (counted (sizesOf (a .t)) ++ ws)) (a .at) (a .buf .now) r in
-    fits (1 ∷ []) (counted (sizesOf (a .t)) ++ ws) l0
+byte-requires-2 : tie.Need-byte-requires-2
+byte-requires-2 c κs = search needs
 
 array-share-prefix-sizes : tie.Need-array-share-prefix-sizes
 array-share-prefix-sizes c =
@@ -79,7 +61,7 @@ put-counted-requires c κs =
     let e = weighted-bytes (a .t) total (c .before .before .before .before .before .before .before .before .before .if1 .left) (c .before .before .before .before .before .before .weights-in .ensures) in
     let r : Room ((1 ∷ []) ++ (counted (sizesOf (a .t)) ++ ws)) (a .at) (a .buf .now) = rw e at (s .pre .1) in
     let l0 = begin ((1 ∷ []) ++ (counted (sizesOf (a .t)) ++ ws)) (a .at) (a .buf .now) r in
-    let l1 = more (1 ∷ []) (counted (sizesOf (a .t)) ++ ws) l0 (c .before .before .before .before .put-byte2 .ensures) in
+    let l1 = put-more (1 ∷ []) (counted (sizesOf (a .t)) ++ ws) l0 (c .before .before .before .before .byte2 .ensures) in
     let g = is-weighted (a .t) (s .pre .0) (c .before .before .before .before .before .before .before .before .before .if1 .left) .few in
     (simp length-take (omega arith), fits (counted (sizesOf (a .t))) ws l1)
 
@@ -92,7 +74,7 @@ put-weights-requires c κs =
     let e = weighted-bytes (a .t) total (c .before .before .before .before .before .before .before .before .before .before .before .before .before .if1 .left) (c .before .before .before .before .before .before .before .before .before .before .weights-in .ensures) in
     let r : Room ((1 ∷ []) ++ (counted (sizesOf (a .t)) ++ ws)) (a .at) (a .buf .now) = rw e at (s .pre .1) in
     let l0 = begin ((1 ∷ []) ++ (counted (sizesOf (a .t)) ++ ws)) (a .at) (a .buf .now) r in
-    let l1 = more (1 ∷ []) (counted (sizesOf (a .t)) ++ ws) l0 (c .before .before .before .before .before .before .before .before .put-byte2 .ensures) in
+    let l1 = put-more (1 ∷ []) (counted (sizesOf (a .t)) ++ ws) l0 (c .before .before .before .before .before .before .before .before .byte2 .ensures) in
     let l2 = more (counted (sizesOf (a .t))) ws l1 (c .before .before .before .put-counted .ensures) in
     let g = is-weighted (a .t) (s .pre .0) (c .before .before .before .before .before .before .before .before .before .before .before .before .before .if1 .left) .light in
     let m : total ≡ weightsIn (a .t) = c .before .before .before .before .before .before .before .before .before .before .weights-in .ensures in
@@ -110,7 +92,7 @@ returns-2 c =
     let e = weighted-bytes (a .t) total (c .before .before .before .before .before .before .before .before .before .before .before .before .before .before .before .before .if1 .left) (c .before .before .before .before .before .before .before .before .before .before .before .before .before .weights-in .ensures) in
     let r : Room ((1 ∷ []) ++ (counted (sizesOf (a .t)) ++ ws)) (a .at) (a .buf .now) = rw e at (s .pre .1) in
     let l0 = begin ((1 ∷ []) ++ (counted (sizesOf (a .t)) ++ ws)) (a .at) (a .buf .now) r in
-    let l1 = more (1 ∷ []) (counted (sizesOf (a .t)) ++ ws) l0 (c .before .before .before .before .before .before .before .before .before .before .before .put-byte2 .ensures) in
+    let l1 = put-more (1 ∷ []) (counted (sizesOf (a .t)) ++ ws) l0 (c .before .before .before .before .before .before .before .before .before .before .before .byte2 .ensures) in
     let l2 = more (counted (sizesOf (a .t))) ws l1 (c .before .before .before .before .before .before .put-counted .ensures) in
     rw e (last ws l2 (c .before .before .put-weights .ensures))
 
@@ -118,12 +100,12 @@ pub put-threshold-spec : {M : Type 1} → statement M
 put-threshold-spec =
     tie.close
     (tie.spec
-    put-byte-requires
-    put-number-requires
+    byte-requires
+    number-requires
     same-length
     returns
     weights-in-requires
-    put-byte-requires-2
+    byte-requires-2
     array-share-prefix-sizes
     slice-aggregate-put-counted
     put-counted-requires

@@ -4,7 +4,8 @@ use Prim.Native.Nat.{_-_, _≤_}
 use native.Mathlib.Omega.{arith}
 use lib.ListN.{length, drop, take}
 use Rattle.snapshot.specs.Bytes.{each, weightBytes}
-use Rattle.snapshot.proofs.Laws.{Left, begin, each-fits, each-more, each-done}
+use Rattle.writer.proofs.Laws.{Left, begin}
+use Rattle.snapshot.proofs.Laws.{each-fits, each-more, each-done}
 use Rattle.threshold.proofs.Laws.{noWeight}
 use Rattle.snapshot.proofs.put_weights.Statement.{statement}
 use Rattle.snapshot.proofs.put_weights.Tie as tie

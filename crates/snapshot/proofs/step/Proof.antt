@@ -1,7 +1,7 @@
 use mathlib.Core.Path.{sym}
 use borrow.Author.Needs.{needs}
 use mathlib.Core.List.{[], _∷_, _++_}
-use Rattle.snapshot.proofs.Laws.{begin, fits, more, last}
+use Rattle.writer.proofs.Laws.{begin, put-more, put-last}
 use Rattle.snapshot.proofs.Assembled.{pointed-other, pointed-short, pointed-whole, point-room}
 use Rattle.snapshot.proofs.step.Statement.{statement}
 use Rattle.snapshot.proofs.step.Tie as tie
@@ -16,22 +16,11 @@ returns-2 c =
     let a = c .before .before .before .before .args in
     sym (pointed-short (a .point .now) (a .buf .now) (c .before .if1 .left) (c .if2 .taken))
 
-put-bytes-requires : tie.Need-put-bytes-requires
-put-bytes-requires c κs =
-    let a = c .before .before .before .before .before .args in
-    let e = c .before .before .if1 .left in
-    let h = c .before .if2 .left in
-    let l0 = begin (a .point .now ++ (2 ∷ [])) 37 (a .buf .now) (point-room (a .point .now) (a .buf .now) e h) in
-    fits (a .point .now) _ l0
+bytes-requires : tie.Need-bytes-requires
+bytes-requires c κs = search needs
 
-put-byte-requires : tie.Need-put-byte-requires
-put-byte-requires c κs =
-    let a = c .before .before .before .before .before .before .before .before .before .args in
-    let e = c .before .before .before .before .before .before .if1 .left in
-    let h = c .before .before .before .before .before .if2 .left in
-    let l0 = begin (a .point .now ++ (2 ∷ [])) 37 (a .buf .now) (point-room (a .point .now) (a .buf .now) e h) in
-    let l1 = more (a .point .now) (2 ∷ []) l0 (c .before .before .before .put-bytes .ensures) in
-    l1 .room
+byte-requires : tie.Need-byte-requires
+byte-requires c κs = search needs
 
 same-length : tie.Need-same-length
 same-length c = search needs
@@ -42,8 +31,8 @@ returns-3 c =
     let e = c .before .before .before .before .before .before .before .before .before .if1 .left in
     let h = c .before .before .before .before .before .before .before .before .if2 .left in
     let l0 = begin (a .point .now ++ (2 ∷ [])) 37 (a .buf .now) (point-room (a .point .now) (a .buf .now) e h) in
-    let l1 = more (a .point .now) (2 ∷ []) l0 (c .before .before .before .before .before .before .put-bytes .ensures) in
-    rw (pointed-whole (a .point .now) (a .buf .now) e h) (last (2 ∷ []) l1 (c .before .before .put-byte .ensures) .bytes)
+    let l1 = put-more (a .point .now) (2 ∷ []) l0 (c .before .before .before .before .before .before .bytes .ensures) in
+    rw (pointed-whole (a .point .now) (a .buf .now) e h) (put-last (2 ∷ []) l1 (c .before .before .byte .ensures) .bytes)
 
 pub step-spec : {M : Type 1} → statement M
 step-spec =
@@ -51,7 +40,7 @@ step-spec =
     (tie.spec
     returns
     returns-2
-    put-bytes-requires
-    put-byte-requires
+    bytes-requires
+    byte-requires
     same-length
     returns-3)
