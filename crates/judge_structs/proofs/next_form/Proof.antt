@@ -1,7 +1,7 @@
 use borrow.Author.Needs.{needs}
 use borrow.Author.Tests.{eq-eqb, ne-eqb}
-use Rattle.rules.proofs.next_form.Statement.{statement}
-use Rattle.rules.proofs.next_form.Tie as tie
+use Rattle.judge_structs.proofs.next_form.Statement.{statement}
+use Rattle.judge_structs.proofs.next_form.Tie as tie
 
 accept-requires : tie.Need-accept-requires
 accept-requires c κs = search needs

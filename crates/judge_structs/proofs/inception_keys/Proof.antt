@@ -1,9 +1,9 @@
 use mathlib.Core.Path.{sym, _∙_}
 use borrow.Author.Needs.{needs}
 use Rattle.answer.proofs.Laws.{here, past, last}
 use Rattle.rules.proofs.Laws.{clean-next}
-use Rattle.rules.proofs.inception_keys.Statement.{statement}
-use Rattle.rules.proofs.inception_keys.Tie as tie
+use Rattle.judge_structs.proofs.inception_keys.Statement.{statement}
+use Rattle.judge_structs.proofs.inception_keys.Tie as tie
 
 own-form-requires : tie.Need-own-form-requires
 own-form-requires c κs = search needs
