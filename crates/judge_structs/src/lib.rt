@@ -14,7 +14,6 @@ use authority::Commitment;
 use event::Body;
 use event::Head;
 use evidence::Evidence;
-use item::Item;
 use member_set::Change;
 use state::KeyState;
 
@@ -30,11 +29,9 @@ fn next_form(c: Commitment) -> Answer
     ensures { λ r. ⌜ r ≡ nextForm c ⌝ }
 {
     let next = c.next;
-    if next.count == 0 {
-        return answer::accept();
-    }
     let t = c.threshold;
-    threshold::form(t, next.count)
+    let form = threshold::form(t, next.count);
+    rules::next_form(next.count, form)
 }
 
 fn identity(h: Head, b: Body, anchors: u32) -> Answer
@@ -85,26 +82,14 @@ fn inception_keys(b: Body, v: Evidence) -> Answer
     next_form(next)
 }
 
-fn may_commit(prefix: Item, c: Commitment) -> Answer
-    ensures { λ r. ⌜ r ≡ mayCommit prefix c ⌝ }
-{
-    let next = c.next;
-    if next.count == 0 {
-        return answer::accept();
-    }
-    if item::is_transferable(prefix.code) {
-        return answer::accept();
-    }
-    answer::refuse(29, 0, 0)
-}
-
 // 29; 30 or 31; 32.
 fn inception_witnesses(h: Head, b: Body, v: Evidence) -> Answer
     ensures { λ r. ⌜ r ≡ firstRefusal (mayCommit (h .prefix) (b .commitment) ∷ toadFits b (b .additions .count) ∷ receiptedOn (b .toad) v (b .additions .count) ∷ []) ⌝ }
 {
     let prefix = h.prefix;
     let committed = b.commitment;
-    let x = may_commit(prefix, committed);
+    let next = committed.next;
+    let x = rules::may_commit(prefix.code, next.count);
     if x.number != 0 {
         return x;
     }

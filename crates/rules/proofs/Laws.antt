@@ -15,27 +15,27 @@ use Rattle.answer.proofs.Laws.{Clean, clean-first, here, past, last, three-grou
 use Rattle.item.specs.declared.Item.{Item}
 use Rattle.items.specs.declared.Items.{Items}
 use Rattle.items.specs.Items.{packed, listed}
+use Rattle.threshold.specs.declared.Threshold.{Threshold}
 use Rattle.threshold.specs.Threshold.{wellFormed}
 use Rattle.threshold.proofs.Laws.{clean-form}
-use Rattle.authority.specs.declared.Commitment.{Commitment}
 use Rattle.authority.specs.Authority.{receipts}
 use Rattle.member_set.specs.declared.Change.{Change}
 use Rattle.member_set.specs.Members.{witnessFaults, changeOf}
 use Rattle.event.specs.declared.Head.{Head}
 use Rattle.event.specs.declared.Body.{Body}
 use Rattle.toad.specs.Toad.{witnessThreshold}
-use Rattle.rules.specs.Rules.{genesisSn, identityOf, ownForm, nextForm, mayCommit, toadFits, inception, witnessStages, changed}
+use Rattle.rules.specs.Rules.{genesisSn, identityOf, ownForm, nextForm, nextFormOf, mayCommit, toadFits, inception, witnessStages, changed}
 
 pub clean-witnesses : (list : ℕ) (xs : List Item) → Clean (witnessFaults list xs)
 unfolding witnessFaults
 clean-witnesses list xs = clean-first _
 
-pub clean-next : (c : Commitment) → Clean (nextForm c)
-clean-next c = by-test (eqb (c .next .count) 0)
+pub clean-next : (next : ℕ) (t : Threshold) → Clean (nextFormOf next (wellFormed t next))
+clean-next next t = by-test (eqb next 0)
   where
-    by-test : (t : Bool) → Clean (pick t accepted (wellFormed (c .threshold) (c .next .count)))
+    by-test : (b : Bool) → Clean (pick b accepted (wellFormed t next))
     by-test true p = refl
-    by-test false p = clean-form (c .threshold) (c .next .count) p
+    by-test false p = clean-form t next p
 
 pub clean-receipts : (toad : ℕ) (ps : List ℕ) → Clean (receipts toad ps)
 unfolding receipts

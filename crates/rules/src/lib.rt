@@ -8,7 +8,7 @@ ghost use Rattle.item.specs.Item.{sameItem};
 ghost use Rattle.items.specs.Items.{listed, packed};
 ghost use Rattle.member_set.specs.Members.{changeFaults, updated};
 ghost use Rattle.evidence.specs.Evidence.{receiptedOn};
-ghost use Rattle.rules.specs.Rules.{follows, chainsOnto, genesisSn, witnessStages, changed, mayInteract};
+ghost use Rattle.rules.specs.Rules.{follows, chainsOnto, nextFormOf, genesisSn, mayCommitOf, witnessStages, changed, mayInteract};
 use answer::Answer;
 use config::Config;
 use event::Head;
@@ -62,6 +62,16 @@ pub fn chain(prefix: Item, sn: Number, said: Item, h: Head) -> Answer
     same_or_refuse(said, prior, 36)
 }
 
+// "next threshold if next is not empty": `form` is what its caller found of that threshold, by value or in place.
+pub fn next_form(next: usize, form: Answer) -> Answer
+    ensures { λ r. ⌜ r ≡ nextFormOf next form ⌝ }
+{
+    if next == 0 {
+        return answer::accept();
+    }
+    form
+}
+
 pub fn genesis_sn(sn: Number) -> Answer
     ensures { λ r. ⌜ r ≡ genesisSn sn ⌝ }
 {
@@ -74,6 +84,19 @@ pub fn genesis_sn(sn: Number) -> Answer
         a: sn,
         b: zero,
     }
+}
+
+// 29: a non-transferable prefix that commits to next keys.
+pub fn may_commit(code: u8, next: usize) -> Answer
+    ensures { λ r. ⌜ r ≡ mayCommitOf code next ⌝ }
+{
+    if next == 0 {
+        return answer::accept();
+    }
+    if item::is_transferable(code) {
+        return answer::accept();
+    }
+    answer::refuse(29, 0, 0)
 }
 
 pub fn unchanged(x: Answer) -> Change

@@ -1,8 +1,8 @@
 use mathlib.Core.Path.{sym, _∙_}
 use borrow.Author.Needs.{needs}
 use borrow.Author.Tests.{eq-eqb, ne-eqb}
-use Rattle.judge_structs.proofs.may_commit.Statement.{statement}
-use Rattle.judge_structs.proofs.may_commit.Tie as tie
+use Rattle.rules.proofs.may_commit.Statement.{statement}
+use Rattle.rules.proofs.may_commit.Tie as tie
 
 accept-requires : tie.Need-accept-requires
 accept-requires c κs = search needs
