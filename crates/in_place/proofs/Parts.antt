@@ -1,9 +1,9 @@
 -- The next state's loose fields, and where the runs of a record's bytes start and end. Assumes nothing.
---     moves, stays, kept-flag, cleared-flag   the flag of an inception, of a rotation
---     settle-..                               what a writing leaves, by its answer
---     ..-runs                                 the bounds of a record's runs
-use mathlib.Core.Path.{_≡_, sym, _∙_, ap}
-use mathlib.Core.Bool.{Bool, true, false, not}
+--     moves, kept-flag, cleared-flag   the flag of an inception, of a rotation
+--     settle-..                        what a writing leaves, by its answer
+--     ..-runs                          the bounds of a record's runs
+use mathlib.Core.Path.{_≡_, sym, _∙_, ap, ap₂}
+use mathlib.Core.Bool.{Bool, false, not}
 use mathlib.Core.List.{List}
 use Prim.Native.Nat.{ℕ, _-_, _≤_}
 use native.Mathlib.Omega.{arith}
@@ -12,14 +12,13 @@ use lib.Dec.{eqb}
 use lib.ListN.{length, take, drop, length-take}
 use Rattle.lists.specs.Lists.{both}
 use Rattle.item.specs.declared.Item.{Item}
-use Rattle.item.specs.Item.{transferableOf}
 use Rattle.items.specs.declared.Items.{Items}
 use Rattle.config.specs.declared.Config.{Config}
 use Rattle.answer.specs.declared.Answer.{Answer}
 use Rattle.answer.specs.Answer.{accepted}
 use Rattle.event.specs.declared.Head.{Head}
 use Rattle.event.specs.declared.Body as E
-use Rattle.state.specs.State.{rotated, canMove}
+use Rattle.state.specs.State.{rotated, canMove, movesWith}
 use Rattle.record.specs.declared.EventMarks.{EventMarks}
 use Rattle.record.specs.declared.StateMarks.{StateMarks}
 use Rattle.record.specs.Marks.{inceptionPlaces, rotationPlaces, interactionPlaces, snapshotPlaces, stateOf}
@@ -33,12 +32,8 @@ use Rattle.in_place.proofs.Written.{small-bytes}
 use Rattle.in_place.proofs.Held.{run}
 
 -- ---- the flag
-module _ (h : Head) (b : E.Body) (t : Bool) (p : Item) (e : p ≡ h .prefix) (et : t ≡ transferableOf (p .code)) where
-  pub moves : t ≡ true → (n : ℕ) → n ≡ b .commitment .next .count → not (eqb n 0) ≡ canMove h b
-  moves f n en = rw (← e, ← et, f, en)
-
-  pub stays : t ≡ false → false ≡ canMove h b
-  stays f = rw (← e, ← et, f)
+pub moves : (h : Head) (b : E.Body) (p : Item) (n : ℕ) (t : Bool) → p ≡ h .prefix → n ≡ b .commitment .next .count → t ≡ movesWith (p .code) n → t ≡ canMove h b
+moves h b p n t ep en et = et ∙ ap₂ (λ (q : Item) (k : ℕ). movesWith (q .code) k) ep en
 
 module _ (n k : ℕ) (e : n ≡ k) (t : Bool) where
   pub cleared-flag : n ≡ 0 → false ≡ both (not (eqb k 0)) t

@@ -7,7 +7,7 @@ ghost use Rattle.lists.specs.Lists.{pick};
 ghost use Rattle.answer.specs.Answer.{accepted, refused};
 ghost use Rattle.items.specs.Items.{packed};
 ghost use Rattle.event.specs.declared.Ilk.the-variants.{Inception, Rotation, Interaction};
-ghost use Rattle.state.specs.State.{holding, genesis, rotated, stepped, canMove};
+ghost use Rattle.state.specs.State.{holding, genesis, rotated, stepped};
 ghost use Rattle.empty.specs.Empty.{nothing};
 ghost use Rattle.rules.specs.Rules.{newWitnesses, changed};
 ghost use Rattle.ingest.specs.Judgement.{rotates, interacts};
@@ -37,33 +37,21 @@ const DECIDING: usize = 10086;
 
 // ---- The next state, but for the runs of bytes that it takes over
 
-fn can_move(s: &[u8], m: EventMarks) -> bool
-    ensures { λ r. ⌜ r ≡ canMove (headOf (now (s .entry)) (m .head)) (bodyOf (now (s .entry)) (m .body)) ⌝ }
+fn begun(s: &[u8], m: EventMarks) -> Loose
+    ensures { λ r. ⌜ r ≡ looseOf (genesis (headOf (now (s .entry)) (m .head)) (bodyOf (now (s .entry)) (m .body))) ⌝ }
 {
     let h = m.head;
     let b = m.body;
     let signers = b.signers;
     let coming = signers.commitment;
     let next = coming.items;
-    let prefix = field::copy_item(s, h.prefix);
-    if item::is_transferable(prefix.code) {
-        field::count_items(s, next.count, next.first) != 0
-    } else {
-        false
-    }
-}
-
-fn begun(s: &[u8], m: EventMarks) -> Loose
-    ensures { λ r. ⌜ r ≡ looseOf (genesis (headOf (now (s .entry)) (m .head)) (bodyOf (now (s .entry)) (m .body))) ⌝ }
-{
-    let h = m.head;
-    let b = m.body;
     let added = b.additions;
     let traits = b.config;
     let prefix = field::copy_item(s, h.prefix);
     let witnesses = field::copy_items(s, added.count, added.first);
     let config = field::copy_config(s, traits.count, traits.first);
-    let transferable = can_move(s, m);
+    let digests = field::count_items(s, next.count, next.first);
+    let transferable = state::can_move(prefix.code, digests);
     let witnessing = Witnessing {
         witnesses,
         toad: b.toad,

@@ -52,7 +52,7 @@ fn take(s: KeyState, x: Answer) -> Offered
 pub fn incept(before: Holder, h: Head, b: Body, anchors: u32, v: Evidence) -> Offered
     ensures { λ r. ⌜ r ≡ settled before (inception h b anchors (signedOn (b .authority .threshold) v) (receiptedOn (b .toad) v)) (holding (seeded h b)) ⌝ }
 {
-    let x = rules::incept(h, b, anchors, v);
+    let x = judge_structs::incept(h, b, anchors, v);
     if x.number != 0 {
         return keep(before, x);
     }
@@ -66,7 +66,7 @@ pub fn rotate(before: Holder, h: Head, b: Body, v: Evidence) -> Offered
     ensures { λ r. ⌜ r ≡ settled before (rotation (before .state) h b (signedOn (b .authority .threshold) v) (exposedOn (before .state .commitment .threshold) v) (receiptedOn (b .toad) v)) (holding (rotated (before .state) h b (packed (newWitnesses (before .state) b)))) ⌝ }
 {
     let old = before.state;
-    let change = rules::rotate(old, h, b, v);
+    let change = judge_structs::rotate(old, h, b, v);
     let x = change.answer;
     if x.number != 0 {
         return keep(before, x);
@@ -81,7 +81,7 @@ pub fn interact(before: Holder, h: Head, v: Evidence) -> Offered
     ensures { λ r. ⌜ r ≡ settled before (interaction (before .state) h (signedOn (before .state .authority .threshold) v) (receiptedOn (before .state .witnessing .toad) v)) (holding (stepped (before .state) h)) ⌝ }
 {
     let old = before.state;
-    let x = rules::interact(old, h, v);
+    let x = judge_structs::interact(old, h, v);
     if x.number != 0 {
         return keep(before, x);
     }

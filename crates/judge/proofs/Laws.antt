@@ -13,7 +13,7 @@ use Rattle.lists.proofs.Facts.{both-true}
 use Rattle.number.specs.declared.Number.{Number}
 use Rattle.answer.specs.declared.Answer.{Answer}
 use Rattle.answer.specs.Answer.{accepted, firstRefusal}
-use Rattle.answer.proofs.Laws.{Clean, clean-first, last, grouped, tail-same}
+use Rattle.answer.proofs.Laws.{clean-first, last, grouped, tail-same}
 use Rattle.item.specs.declared.Item.{Item}
 use Rattle.items.specs.declared.Items.{Items}
 use Rattle.items.specs.Items.{listed, packed}
@@ -27,7 +27,7 @@ use Rattle.event.specs.declared.Ilk.the-variants.{Inception, Rotation, Interact
 use Rattle.evidence.specs.declared.Evidence.{Evidence}
 use Rattle.evidence.specs.Evidence.{evidenceOf, signedOn, receiptedOn}
 use Rattle.rules.specs.Rules.{chainsOnto, mayInteract, interaction, rewitness, rotation}
-use Rattle.rules.proofs.Laws.{clean-next, clean-receipts, incepts, change-stops, no-toad, no-receipts, rewitnesses}
+use Rattle.rules.proofs.Laws.{clean-receipts, incepts, change-stops, no-toad, no-receipts, rewitnesses}
 use Rattle.ingest.specs.Judgement.{incepted, rotates, interacts}
 use Rattle.ingest.proofs.Laws.{incept-lists, rotate-lists, interact-lists}
 use Rattle.cursor.specs.Spans.{listOf, manyOf}
@@ -35,14 +35,13 @@ use Rattle.cursor.proofs.Laws.{list-length}
 use Rattle.field.specs.Field.{itemOf, itemsOf, configOf}
 use Rattle.wire.specs.Wire.{sigersOf}
 use Rattle.parts.specs.declared.Listing.{Listing}
-use Rattle.parts.specs.declared.QuorumMarks.{QuorumMarks}
 use Rattle.parts.specs.Parts.{headOf, bodyOf}
 use Rattle.record.specs.declared.TailMarks.{TailMarks}
 use Rattle.record.specs.declared.EventMarks.{EventMarks}
 use Rattle.record.specs.declared.StateMarks.{StateMarks}
 use Rattle.record.specs.Marks.{stateOf, eventOf}
 use Rattle.record.proofs.Laws.{evidence-as}
-use Rattle.judge.specs.Parts.{listAt, thresholdAt, evidenceAt, nextFormAt, startAt, keysAt, witnessesAt, chainsAt, openingAt, rewitnessAt, changedAt}
+use Rattle.judge.specs.Parts.{listAt, thresholdAt, evidenceAt, startAt, keysAt, witnessesAt, chainsAt, openingAt, rewitnessAt, changedAt}
 
 -- ---- what is not looked at
 none-of : (s : List ℕ) (p : ℕ) → manyOf (itemOf s) 33 16 s 0 p ≡ []
@@ -67,9 +66,6 @@ no-witnesses s n p z = rw (nothing-at s n p z) no-faults
 -- ---- the same checks of the same parts
 pub chain-same : (p p' : Item) (sn : Number) (d d' : Item) (h h' : Head) → p ≡ p' → d ≡ d' → h ≡ h' → chainsOnto p sn d h ≡ chainsOnto p' sn d' h'
 chain-same p p' sn d d' h h' ep ed eh = rw (ep, ed, eh)
-
-pub clean-next-at : (s : List ℕ) (q : QuorumMarks) (next : ℕ) → Clean (nextFormAt s q next)
-clean-next-at s q next = clean-next (record { next = record { count = next; at = [] }; threshold = thresholdAt s q })
 
 -- a check and two groups of checks
 pub then-groups : (x : Answer) (ys zs : List Answer) → firstRefusal (x ∷ firstRefusal ys ∷ firstRefusal zs ∷ []) ≡ firstRefusal (x ∷ (ys ++ zs))

@@ -2,13 +2,9 @@
 -- the evidence handed in. proofs/Laws has that they come to the judgements of ingest/specs/Judgement.
 use Prim.Native.Nat.{ℕ}
 use mathlib.Core.List.{List, [], _∷_}
-use mathlib.Core.Bool.{true}
-use lib.Dec.{eqb}
-use Rattle.lists.specs.Lists.{pick}
 use Rattle.answer.specs.declared.Answer.{Answer}
-use Rattle.answer.specs.Answer.{refused, accepted, refuseUnless, firstRefusal}
+use Rattle.answer.specs.Answer.{firstRefusal}
 use Rattle.item.specs.declared.Item.{Item}
-use Rattle.item.specs.Item.{transferableOf}
 use Rattle.items.specs.declared.Items.{Items}
 use Rattle.items.specs.Items.{listed}
 use Rattle.threshold.specs.declared.Threshold.{Threshold}
@@ -19,7 +15,7 @@ use Rattle.member_set.specs.declared.Change.{Change}
 use Rattle.inception.specs.Identity.{identity}
 use Rattle.evidence.specs.declared.Evidence.{Evidence}
 use Rattle.evidence.specs.Evidence.{evidenceOf, signedOn, exposedOn, receiptedOn}
-use Rattle.rules.specs.Rules.{chainsOnto, genesisSn, nextForm, witnessStages, changed}
+use Rattle.rules.specs.Rules.{chainsOnto, genesisSn, nextForm, nextFormOf, mayCommitOf, witnessStages, changed}
 use Rattle.field.specs.Field.{itemOf, itemsOf}
 use Rattle.threshold_field.specs.ThresholdField.{thresholdOf}
 use Rattle.wire.specs.Wire.{sigersOf}
@@ -45,7 +41,7 @@ evidenceAt s t keys next =
 
 -- "next threshold if next is not empty"
 abbrev pub nextFormAt : List ℕ → QuorumMarks → ℕ → Answer
-nextFormAt s q next = pick (eqb next 0) accepted (wellFormed (thresholdAt s q) next)
+nextFormAt s q next = nextFormOf next (wellFormed (thresholdAt s q) next)
 
 -- ---- "IC then: 11; for a basic prefix 12, 13, 14, and with code B also 15, 16, 17; witnesses 18, then 19"
 abbrev pub identityAt : List ℕ → QuorumMarks → Item → ℕ → ℕ → ℕ → Answer
@@ -67,12 +63,9 @@ keysAt s q keys next v =
     ∷ []
 
 -- "29; 30 or 31; 32"
-abbrev pub mayCommitAt : ℕ → ℕ → Answer
-mayCommitAt code next = refuseUnless (pick (eqb next 0) true (transferableOf code)) (refused 29 0 0)
-
 abbrev pub witnessesAt : ℕ → ℕ → ℕ → ℕ → Evidence → List Answer
 witnessesAt code next toad witnesses v =
-    mayCommitAt code next ∷ witnessThreshold toad witnesses ∷ receiptedOn toad v witnesses ∷ []
+    mayCommitOf code next ∷ witnessThreshold toad witnesses ∷ receiptedOn toad v witnesses ∷ []
 
 -- ---- "RO: 33, 34, 35, 36; own threshold; next threshold if next is not empty; 27; 28"
 abbrev pub chainsAt : List ℕ → HeadMarks → List ℕ → HeadMarks → Answer

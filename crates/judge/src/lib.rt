@@ -11,7 +11,7 @@ ghost use Rattle.rules.specs.Rules.{changed, newWitnesses};
 ghost use Rattle.ingest.specs.Judgement.{incepted, rotates, interacts};
 ghost use Rattle.parts.specs.Parts.{bodyOf};
 ghost use Rattle.record.specs.Marks.{stateOf, eventOf};
-ghost use Rattle.judge.specs.Parts.{listAt, identityAt, nextFormAt, mayCommitAt, startAt, keysAt, witnessesAt};
+ghost use Rattle.judge.specs.Parts.{listAt, identityAt, nextFormAt, startAt, keysAt, witnessesAt};
 ghost use Rattle.judge.specs.Parts.{chainsAt, formsAt, signedAt, openingAt, changedAt};
 use answer::Answer;
 use evidence::Evidence;
@@ -64,22 +64,8 @@ fn witnesses_good(s: &[u8], l: Listing) -> Answer
 fn next_form(s: &[u8], q: QuorumMarks, next: usize) -> Answer
     ensures { λ r. ⌜ r ≡ nextFormAt (now (s .entry)) q next ⌝ }
 {
-    if next == 0 {
-        return answer::accept();
-    }
-    threshold_at::form(s, q.threshold, next)
-}
-
-fn may_commit(code: u8, next: usize) -> Answer
-    ensures { λ r. ⌜ r ≡ mayCommitAt code next ⌝ }
-{
-    if next == 0 {
-        return answer::accept();
-    }
-    if item::is_transferable(code) {
-        return answer::accept();
-    }
-    answer::refuse(29, 0, 0)
+    let form = threshold_at::form(s, q.threshold, next);
+    rules::next_form(next, form)
 }
 
 // 11; 12 to 17; 18, 19.
@@ -131,7 +117,7 @@ fn inception_keys(s: &[u8], q: SignersMarks, keys: usize, next: usize, v: Eviden
 fn inception_witnesses(code: u8, next: usize, toad: u32, witnesses: usize, v: Evidence) -> Answer
     ensures { λ r. ⌜ r ≡ firstRefusal (witnessesAt code next toad witnesses v) ⌝ }
 {
-    let x = may_commit(code, next);
+    let x = rules::may_commit(code, next);
     if x.number != 0 {
         return x;
     }

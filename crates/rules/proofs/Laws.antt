@@ -11,32 +11,31 @@ use Rattle.lists.specs.Lists.{pick}
 use Rattle.lists.proofs.Facts.{clash}
 use Rattle.answer.specs.declared.Answer.{Answer}
 use Rattle.answer.specs.Answer.{refused, accepted, firstRefusal}
-use Rattle.answer.proofs.Laws.{Clean, clean-first, here, past, last, grouped, tail-same, three-groups}
+use Rattle.answer.proofs.Laws.{Clean, clean-first, here, past, last, three-groups}
 use Rattle.item.specs.declared.Item.{Item}
 use Rattle.items.specs.declared.Items.{Items}
 use Rattle.items.specs.Items.{packed, listed}
+use Rattle.threshold.specs.declared.Threshold.{Threshold}
 use Rattle.threshold.specs.Threshold.{wellFormed}
 use Rattle.threshold.proofs.Laws.{clean-form}
-use Rattle.authority.specs.declared.Commitment.{Commitment}
 use Rattle.authority.specs.Authority.{receipts}
 use Rattle.member_set.specs.declared.Change.{Change}
 use Rattle.member_set.specs.Members.{witnessFaults, changeOf}
 use Rattle.event.specs.declared.Head.{Head}
 use Rattle.event.specs.declared.Body.{Body}
-use Rattle.state.specs.declared.KeyState.{KeyState}
 use Rattle.toad.specs.Toad.{witnessThreshold}
-use Rattle.rules.specs.Rules.{chains, genesisSn, identityOf, ownForm, nextForm, mayCommit, toadFits, inception, witnessStages, rewitness, changed, rotation}
+use Rattle.rules.specs.Rules.{genesisSn, identityOf, ownForm, nextForm, nextFormOf, mayCommit, toadFits, inception, witnessStages, changed}
 
 pub clean-witnesses : (list : ℕ) (xs : List Item) → Clean (witnessFaults list xs)
 unfolding witnessFaults
 clean-witnesses list xs = clean-first _
 
-pub clean-next : (c : Commitment) → Clean (nextForm c)
-clean-next c = by-test (eqb (c .next .count) 0)
+pub clean-next : (next : ℕ) (t : Threshold) → Clean (nextFormOf next (wellFormed t next))
+clean-next next t = by-test (eqb next 0)
   where
-    by-test : (t : Bool) → Clean (pick t accepted (wellFormed (c .threshold) (c .next .count)))
+    by-test : (b : Bool) → Clean (pick b accepted (wellFormed t next))
     by-test true p = refl
-    by-test false p = clean-form (c .threshold) (c .next .count) p
+    by-test false p = clean-form t next p
 
 pub clean-receipts : (toad : ℕ) (ps : List ℕ) → Clean (receipts toad ps)
 unfolding receipts
@@ -66,10 +65,6 @@ room new e = by-test (leb (length new) 16) e
     by-test true p = refl
     by-test false p = absurd (omega (arith, p))
 
-pub clean-rewitness : (current : List Item) (b : Body) (receipted : ℕ → Answer) → Clean (rewitness current b receipted)
-unfolding rewitness
-clean-rewitness current b receipted = clean-first _
-
 -- ---- the rules from their groups
 abbrev pub startOf : Head → Body → ℕ → List Answer
 startOf h b anchors = genesisSn (h .sn) ∷ identityOf h b anchors ∷ witnessFaults 1 (listed (b .additions)) ∷ []
@@ -84,18 +79,6 @@ pub incepts : (h : Head) (b : Body) (anchors : ℕ) (signed : Answer) (receipted
     → firstRefusal (firstRefusal (startOf h b anchors) ∷ firstRefusal (keysOf b signed) ∷ firstRefusal (witnessesOf h b receipted) ∷ []) ≡ inception h b anchors signed receipted
 unfolding inception
 incepts h b anchors signed receipted = three-groups (startOf h b anchors) (keysOf b signed) (witnessesOf h b receipted)
-
-abbrev pub openingOf : Body → Answer → Answer → List Answer
-openingOf b signed exposed = ownForm (b .authority) ∷ nextForm (b .commitment) ∷ signed ∷ exposed ∷ []
-
-abbrev pub rewitnessOf : KeyState → Body → (ℕ → Answer) → Answer
-rewitnessOf s b receipted = rewitness (listed (s .witnessing .witnesses)) b receipted
-
-pub rotations : (s : KeyState) (h : Head) (b : Body) (signed exposed : Answer) (receipted : ℕ → Answer)
-    → firstRefusal (chains s h ∷ firstRefusal (openingOf b signed exposed) ∷ rewitnessOf s b receipted ∷ []) ≡ rotation s h b signed exposed receipted
-unfolding rotation
-rotations s h b signed exposed receipted =
-    tail-same (chains s h ∷ []) (firstRefusal (openingOf b signed exposed) ∷ rewitnessOf s b receipted ∷ []) _ (grouped (openingOf b signed exposed) (rewitnessOf s b receipted ∷ []))
 
 -- ---- a witness change, stage by stage: x found no fault, c is the change
 abbrev pub answerOf : Change → Answer

@@ -14,7 +14,7 @@ use Rattle.number.specs.Number.{small, sameNumber, nextOf}
 use Rattle.answer.specs.declared.Answer.{Answer}
 use Rattle.answer.specs.Answer.{refused, accepted, refuseIf, refuseUnless, firstRefusal, passes}
 use Rattle.item.specs.declared.Item.{Item}
-use Rattle.item.specs.Item.{sameItem, isTransferable}
+use Rattle.item.specs.Item.{sameItem, isTransferable, transferableOf}
 use Rattle.items.specs.Items.{listed, packed}
 use Rattle.config.specs.declared.Config.{Config}
 use Rattle.config.specs.Config.{establishmentOnly}
@@ -54,6 +54,10 @@ ownForm a = wellFormed (a .threshold) (a .keys .count)
 abbrev pub nextForm : Commitment → Answer
 nextForm c = pick (eqb (c .next .count) 0) accepted (wellFormed (c .threshold) (c .next .count))
 
+-- the same by the number of next digests and what the next threshold's form comes to
+abbrev pub nextFormOf : ℕ → Answer → Answer
+nextFormOf next form = pick (eqb next 0) accepted form
+
 -- ---- "IC then: 11; for a basic prefix 12, 13, 14, and with code B also 15, 16, 17; witnesses 18, then 19; own threshold;
 -- signatures 27; next threshold if next is not empty; 29; 30 or 31; 32." 11's detail: sn.
 abbrev pub genesisSn : Number → Answer
@@ -66,6 +70,10 @@ identityOf h b anchors =
 -- 29: a non-transferable prefix that commits to next keys
 abbrev pub mayCommit : Item → Commitment → Answer
 mayCommit prefix c = refuseUnless (pick (eqb (c .next .count) 0) true (isTransferable prefix)) (refused 29 0 0)
+
+-- the same by the prefix's code and the number of next digests
+abbrev pub mayCommitOf : ℕ → ℕ → Answer
+mayCommitOf code next = refuseUnless (pick (eqb next 0) true (transferableOf code)) (refused 29 0 0)
 
 abbrev pub toadFits : Body → ℕ → Answer
 toadFits b witnesses = witnessThreshold (b .toad) witnesses

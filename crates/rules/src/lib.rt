@@ -1,20 +1,16 @@
-// The checks of an inception, a rotation and an interaction, in document 01's order, on the sets of places that the
-// signatures and receipts came to.
+// The checks that document 01's lists are made of and that both ways through them share: by value (`judge_structs`) and in place
+// (`judge`). The lists themselves are in specs/Rules.
 ghost use mathlib.Core.Path.{_≡_};
-ghost use mathlib.Core.List.{[], _∷_};
+ghost use mathlib.Core.List.{[]};
 ghost use Rattle.number.specs.Number.{nextOf};
 ghost use Rattle.answer.specs.Answer.{refused, refuseUnless, firstRefusal};
 ghost use Rattle.item.specs.Item.{sameItem};
 ghost use Rattle.items.specs.Items.{listed, packed};
-ghost use Rattle.member_set.specs.Members.{witnessFaults, changeFaults, updated};
-ghost use Rattle.evidence.specs.Evidence.{signedOn, exposedOn, receiptedOn};
-ghost use Rattle.rules.specs.Rules.{follows, chainsOnto, genesisSn, identityOf, ownForm, nextForm, mayCommit, toadFits};
-ghost use Rattle.rules.specs.Rules.{inception, witnessStages, newWitnesses, changed, rotation, mayInteract, interaction};
+ghost use Rattle.member_set.specs.Members.{changeFaults, updated};
+ghost use Rattle.evidence.specs.Evidence.{receiptedOn};
+ghost use Rattle.rules.specs.Rules.{follows, chainsOnto, nextFormOf, genesisSn, mayCommitOf, witnessStages, changed, mayInteract};
 use answer::Answer;
-use authority::Authority;
-use authority::Commitment;
 use config::Config;
-use event::Body;
 use event::Head;
 use evidence::Evidence;
 use item::Item;
@@ -22,7 +18,6 @@ use items::Items;
 use member_set::Change;
 use number::Number;
 use number::Successor;
-use state::KeyState;
 
 // 34 at the last number, whatever the event's number; 35 for any other that does not follow.
 fn follow(sn: Number, actual: Number) -> Answer
@@ -67,36 +62,14 @@ pub fn chain(prefix: Item, sn: Number, said: Item, h: Head) -> Answer
     same_or_refuse(said, prior, 36)
 }
 
-fn own_form(a: Authority) -> Answer
-    ensures { λ r. ⌜ r ≡ ownForm a ⌝ }
+// "next threshold if next is not empty": `form` is what its caller found of that threshold, by value or in place.
+pub fn next_form(next: usize, form: Answer) -> Answer
+    ensures { λ r. ⌜ r ≡ nextFormOf next form ⌝ }
 {
-    let keys = a.keys;
-    let t = a.threshold;
-    threshold::form(t, keys.count)
-}
-
-fn next_form(c: Commitment) -> Answer
-    ensures { λ r. ⌜ r ≡ nextForm c ⌝ }
-{
-    let next = c.next;
-    if next.count == 0 {
+    if next == 0 {
         return answer::accept();
     }
-    let t = c.threshold;
-    threshold::form(t, next.count)
-}
-
-fn identity(h: Head, b: Body, anchors: u32) -> Answer
-    ensures { λ r. ⌜ r ≡ identityOf h b anchors ⌝ }
-{
-    let prefix = h.prefix;
-    let own = b.authority;
-    let keys = own.keys;
-    let t = own.threshold;
-    let committed = b.commitment;
-    let next = committed.next;
-    let witnesses = b.additions;
-    inception::check_identity(prefix, keys, t, next.count, witnesses.count, anchors)
+    form
 }
 
 pub fn genesis_sn(sn: Number) -> Answer
@@ -113,84 +86,17 @@ pub fn genesis_sn(sn: Number) -> Answer
     }
 }
 
-// 11; 12 to 17; 18, 19.
-fn inception_start(h: Head, b: Body, anchors: u32) -> Answer
-    ensures { λ r. ⌜ r ≡ firstRefusal (genesisSn (h .sn) ∷ identityOf h b anchors ∷ witnessFaults 1 (listed (b .additions)) ∷ []) ⌝ }
+// 29: a non-transferable prefix that commits to next keys.
+pub fn may_commit(code: u8, next: usize) -> Answer
+    ensures { λ r. ⌜ r ≡ mayCommitOf code next ⌝ }
 {
-    let sn = h.sn;
-    let x = genesis_sn(sn);
-    if x.number != 0 {
-        return x;
-    }
-    let y = identity(h, b, anchors);
-    if y.number != 0 {
-        return y;
-    }
-    let witnesses = b.additions;
-    member_set::check_witnesses(witnesses, 1)
-}
-
-// The own threshold; 27; the next threshold.
-fn inception_keys(b: Body, v: Evidence) -> Answer
-    ensures { λ r. ⌜ r ≡ firstRefusal (ownForm (b .authority) ∷ signedOn (b .authority .threshold) v ∷ nextForm (b .commitment) ∷ []) ⌝ }
-{
-    let own = b.authority;
-    let x = own_form(own);
-    if x.number != 0 {
-        return x;
-    }
-    let t = own.threshold;
-    let y = evidence::signed(t, v);
-    if y.number != 0 {
-        return y;
-    }
-    let next = b.commitment;
-    next_form(next)
-}
-
-fn may_commit(prefix: Item, c: Commitment) -> Answer
-    ensures { λ r. ⌜ r ≡ mayCommit prefix c ⌝ }
-{
-    let next = c.next;
-    if next.count == 0 {
+    if next == 0 {
         return answer::accept();
     }
-    if item::is_transferable(prefix.code) {
+    if item::is_transferable(code) {
         return answer::accept();
     }
     answer::refuse(29, 0, 0)
-}
-
-// 29; 30 or 31; 32.
-fn inception_witnesses(h: Head, b: Body, v: Evidence) -> Answer
-    ensures { λ r. ⌜ r ≡ firstRefusal (mayCommit (h .prefix) (b .commitment) ∷ toadFits b (b .additions .count) ∷ receiptedOn (b .toad) v (b .additions .count) ∷ []) ⌝ }
-{
-    let prefix = h.prefix;
-    let committed = b.commitment;
-    let x = may_commit(prefix, committed);
-    if x.number != 0 {
-        return x;
-    }
-    let witnesses = b.additions;
-    let y = toad::check_witness_threshold(b.toad, witnesses.count);
-    if y.number != 0 {
-        return y;
-    }
-    evidence::receipted(b.toad, v, witnesses.count)
-}
-
-pub fn incept(h: Head, b: Body, anchors: u32, v: Evidence) -> Answer
-    ensures { λ r. ⌜ r ≡ inception h b anchors (signedOn (b .authority .threshold) v) (receiptedOn (b .toad) v) ⌝ }
-{
-    let x = inception_start(h, b, anchors);
-    if x.number != 0 {
-        return x;
-    }
-    let y = inception_keys(b, v);
-    if y.number != 0 {
-        return y;
-    }
-    inception_witnesses(h, b, v)
 }
 
 pub fn unchanged(x: Answer) -> Change
@@ -231,51 +137,6 @@ pub fn rewitnessed(current: Items, cuts: Items, adds: Items, toad: u32, v: Evide
     }
 }
 
-// The own threshold; the next threshold; 27; 28 against what the state committed to.
-fn rotation_keys(b: Body, committed: Commitment, v: Evidence) -> Answer
-    ensures { λ r. ⌜ r ≡ firstRefusal (ownForm (b .authority) ∷ nextForm (b .commitment) ∷ signedOn (b .authority .threshold) v ∷ exposedOn (committed .threshold) v ∷ []) ⌝ }
-{
-    let own = b.authority;
-    let x = own_form(own);
-    if x.number != 0 {
-        return x;
-    }
-    let next = b.commitment;
-    let y = next_form(next);
-    if y.number != 0 {
-        return y;
-    }
-    let t = own.threshold;
-    let z = evidence::signed(t, v);
-    if z.number != 0 {
-        return z;
-    }
-    let old = committed.threshold;
-    evidence::exposed(old, v)
-}
-
-pub fn rotate(s: KeyState, h: Head, b: Body, v: Evidence) -> Change
-    ensures { λ r. ⌜ r ≡ changed (rotation s h b (signedOn (b .authority .threshold) v) (exposedOn (s .commitment .threshold) v) (receiptedOn (b .toad) v)) (newWitnesses s b) ⌝ }
-{
-    let prefix = s.prefix;
-    let sn = s.sn;
-    let said = s.said;
-    let x = chain(prefix, sn, said, h);
-    if x.number != 0 {
-        return unchanged(x);
-    }
-    let committed = s.commitment;
-    let y = rotation_keys(b, committed, v);
-    if y.number != 0 {
-        return unchanged(y);
-    }
-    let witnessing = s.witnessing;
-    let current = witnessing.witnesses;
-    let cuts = b.removals;
-    let adds = b.additions;
-    rewitnessed(current, cuts, adds, b.toad, v)
-}
-
 pub fn only_establishment(config: Config) -> Answer
     ensures { λ r. ⌜ r ≡ mayInteract config ⌝ }
 {
@@ -283,30 +144,4 @@ pub fn only_establishment(config: Config) -> Answer
         return answer::refuse(37, 0, 0);
     }
     answer::accept()
-}
-
-pub fn interact(s: KeyState, h: Head, v: Evidence) -> Answer
-    ensures { λ r. ⌜ r ≡ interaction s h (signedOn (s .authority .threshold) v) (receiptedOn (s .witnessing .toad) v) ⌝ }
-{
-    let config = s.config;
-    let x = only_establishment(config);
-    if x.number != 0 {
-        return x;
-    }
-    let prefix = s.prefix;
-    let sn = s.sn;
-    let said = s.said;
-    let y = chain(prefix, sn, said, h);
-    if y.number != 0 {
-        return y;
-    }
-    let own = s.authority;
-    let t = own.threshold;
-    let z = evidence::signed(t, v);
-    if z.number != 0 {
-        return z;
-    }
-    let witnessing = s.witnessing;
-    let witnesses = witnessing.witnesses;
-    evidence::receipted(witnessing.toad, v, witnesses.count)
 }

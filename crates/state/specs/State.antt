@@ -1,4 +1,5 @@
 -- What an accepted event makes of a key state: "Acceptance sets fields as `seed`, `apply_rotation` and `interact_mut` do."
+use Prim.Native.Nat.{ℕ}
 use mathlib.Core.List.{[]}
 use mathlib.Core.Bool.{Bool, true, false, not}
 use lib.Dec.{eqb}
@@ -6,7 +7,7 @@ use lib.ListN.{replicate}
 use Rattle.lists.specs.Lists.{both}
 use Rattle.number.specs.declared.Number.{Number}
 use Rattle.number.specs.Number.{small}
-use Rattle.item.specs.Item.{isTransferable, zeroItem}
+use Rattle.item.specs.Item.{isTransferable, transferableOf, zeroItem}
 use Rattle.items.specs.declared.Items.{Items}
 use Rattle.items.specs.Items.{packed}
 use Rattle.config.specs.Config.{packedTraits}
@@ -23,6 +24,10 @@ abandons b = eqb (b .commitment .next .count) 0
 -- ---- inception: "transferable iff the prefix code is transferable and the next-key commitment is non-empty"
 abbrev pub canMove : Head → Body → Bool
 canMove h b = both (isTransferable (h .prefix)) (not (abandons b))
+
+-- the same by the prefix's code and the number of next digests
+abbrev pub movesWith : ℕ → ℕ → Bool
+movesWith code next = both (transferableOf code) (not (eqb next 0))
 
 -- the state that an inception makes, at a sequence number
 abbrev pub begun : Number → Head → Body → KeyState

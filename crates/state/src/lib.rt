@@ -1,6 +1,6 @@
 // The key state by value, the holder of one, and what an accepted event makes of it.
 ghost use mathlib.Core.Path.{_≡_};
-ghost use Rattle.state.specs.State.{canMove, begun, rotated, stepped, holding};
+ghost use Rattle.state.specs.State.{movesWith, begun, rotated, stepped, holding};
 use authority::Authority;
 use authority::Commitment;
 use authority::Witnessing;
@@ -38,14 +38,11 @@ pub struct Holder {
 }
 
 // A prefix that can move, with next keys to move to.
-fn can_move(h: Head, b: Body) -> bool
-    ensures { λ r. ⌜ r ≡ canMove h b ⌝ }
+pub fn can_move(code: u8, next: usize) -> bool
+    ensures { λ r. ⌜ r ≡ movesWith code next ⌝ }
 {
-    let prefix = h.prefix;
-    let commitment = b.commitment;
-    let next = commitment.next;
-    if item::is_transferable(prefix.code) {
-        next.count != 0
+    if item::is_transferable(code) {
+        next != 0
     } else {
         false
     }
@@ -59,9 +56,10 @@ pub fn begin(sn: Number, h: Head, b: Body) -> KeyState
     let said = h.said;
     let authority = b.authority;
     let commitment = b.commitment;
+    let next = commitment.next;
     let witnesses = b.additions;
     let config = b.config;
-    let transferable = can_move(h, b);
+    let transferable = can_move(prefix.code, next.count);
     let witnessing = Witnessing {
         witnesses: witnesses,
         toad: b.toad,

@@ -1,7 +1,8 @@
 use mathlib.Core.Path.{sym, _∙_}
 use borrow.Author.Needs.{needs}
 use Rattle.answer.proofs.Laws.{here, past, last}
-use Rattle.judge.proofs.Laws.{clean-next-at}
+use Rattle.rules.proofs.Laws.{clean-next}
+use Rattle.judge.specs.Parts.{thresholdAt}
 use Rattle.judge.proofs.inception_keys.Statement.{statement}
 use Rattle.judge.proofs.inception_keys.Tie as tie
 
@@ -25,7 +26,7 @@ next-form-requires c κs = search needs
 returns-3 : tie.Need-returns-3
 returns-3 c =
     let a = c .before .before .before .before .before .before .before .before .before .before .before .args in
-    last _ _ (clean-next-at (a .s .now) (a .q .commitment) (a .next)) (c .next-form .ensures) ∙ sym (past _ _ _ (c .before .before .before .before .quorum .ensures) (c .before .before .if2 .left)) ∙ sym (past _ _ _ (c .before .before .before .before .before .before .before .form .ensures) (c .before .before .before .before .before .if1 .left))
+    last _ _ (clean-next (a .next) (thresholdAt (a .s .now) (a .q .commitment))) (c .next-form .ensures) ∙ sym (past _ _ _ (c .before .before .before .before .quorum .ensures) (c .before .before .if2 .left)) ∙ sym (past _ _ _ (c .before .before .before .before .before .before .before .form .ensures) (c .before .before .before .before .before .if1 .left))
 
 pub inception-keys-spec : {M : Type 1} → statement M
 inception-keys-spec =

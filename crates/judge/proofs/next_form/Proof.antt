@@ -1,19 +1,17 @@
+use mathlib.Core.Path.{_∙_, ap}
 use borrow.Author.Needs.{needs}
-use borrow.Author.Tests.{eq-eqb, ne-eqb}
+use Rattle.rules.specs.Rules.{nextFormOf}
 use Rattle.judge.proofs.next_form.Statement.{statement}
 use Rattle.judge.proofs.next_form.Tie as tie
-
-accept-requires : tie.Need-accept-requires
-accept-requires c κs = search needs
-
-returns : tie.Need-returns
-returns c = rw (eq-eqb _ _ (c .before .if1 .taken)) (c .accept .ensures)
 
 form-requires : tie.Need-form-requires
 form-requires c κs = search needs
 
-returns-2 : tie.Need-returns-2
-returns-2 c = rw (ne-eqb _ _ (c .before .if1 .left)) (c .form .ensures)
+next-form-requires : tie.Need-next-form-requires
+next-form-requires c κs = search needs
+
+returns : tie.Need-returns
+returns c = c .next-form .ensures ∙ ap (nextFormOf (c .before .before .before .args .next)) (c .before .form .ensures)
 
 pub next-form-spec : {M : Type 1} → statement M
-next-form-spec = tie.close (tie.spec accept-requires returns form-requires returns-2)
+next-form-spec = tie.close (tie.spec form-requires next-form-requires returns)

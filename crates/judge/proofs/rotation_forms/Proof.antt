@@ -23,7 +23,8 @@ next-form-requires c κs = search needs
 returns-2 : tie.Need-returns-2
 returns-2 c =
     let a = c .before .before .before .before .before .before .before .before .args in
-    last _ _ (clean-next (commitmentOf (a .s .now) (a .q .commitment))) (c .next-form .ensures ∙ ap (nextFormAt (a .s .now) (a .q .commitment)) (c .before .count .ensures)) ∙ sym (past _ _ _ (c .before .before .before .before .before .form .ensures) (c .before .before .before .if1 .left))
+    let coming = commitmentOf (a .s .now) (a .q .commitment) in
+    last _ _ (clean-next (coming .next .count) (coming .threshold)) (c .next-form .ensures ∙ ap (nextFormAt (a .s .now) (a .q .commitment)) (c .before .count .ensures)) ∙ sym (past _ _ _ (c .before .before .before .before .before .form .ensures) (c .before .before .before .if1 .left))
 
 pub rotation-forms-spec : {M : Type 1} → statement M
 rotation-forms-spec =

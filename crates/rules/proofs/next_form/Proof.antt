@@ -9,11 +9,8 @@ accept-requires c κs = search needs
 returns : tie.Need-returns
 returns c = rw (eq-eqb _ _ (c .before .if1 .taken)) (c .accept .ensures)
 
-form-requires : tie.Need-form-requires
-form-requires c κs = search needs
-
 returns-2 : tie.Need-returns-2
-returns-2 c = rw (ne-eqb _ _ (c .before .before .if1 .left)) (c .form .ensures)
+returns-2 c = rw (ne-eqb _ _ (c .if1 .left))
 
 pub next-form-spec : {M : Type 1} → statement M
-next-form-spec = tie.close (tie.spec accept-requires returns form-requires returns-2)
+next-form-spec = tie.close (tie.spec accept-requires returns returns-2)

@@ -2,19 +2,13 @@ use mathlib.Core.Path.{sym, _∙_}
 use borrow.Author.Needs.{needs}
 use Rattle.state.proofs.can_move.Statement.{statement}
 use Rattle.state.proofs.can_move.Tie as tie
-use Rattle.state.proofs.can_move.Reads as reads
-use Rattle.state.proofs.can_move.Lts as lts
-use Rattle.item.proofs.is_transferable.Reads as is-transferable-reads
 
--- src/lib.rt:47:8
 is-transferable-requires : tie.Need-is-transferable-requires
 is-transferable-requires c κs = search needs
 
--- src/lib.rt:41:1
 returns : tie.Need-returns
-returns c = rw (sym (c .before .before .is-transferable .ensures) ∙ c .before .if1 .taken)
+returns c = rw (sym (c .before .is-transferable .ensures) ∙ c .if1 .taken)
 
--- src/lib.rt:41:1
 returns-2 : tie.Need-returns-2
 returns-2 c = rw (sym (c .before .is-transferable .ensures) ∙ c .if1 .left)
 

@@ -4,10 +4,11 @@ use Rattle.items.specs.Items.{listed}
 use Rattle.answer.specs.declared.Answer.{Answer}
 use Rattle.evidence.specs.Evidence.{signedOn, exposedOn, receiptedOn}
 use Rattle.answer.proofs.Laws.{here, past, last}
 use Rattle.rules.specs.Rules.{rewitness, newWitnesses, changed}
-use Rattle.rules.proofs.Laws.{rewitnessOf, clean-rewitness, rotations, change-stops}
-use Rattle.rules.proofs.rotate.Statement.{statement}
-use Rattle.rules.proofs.rotate.Tie as tie
+use Rattle.rules.proofs.Laws.{change-stops}
+use Rattle.judge_structs.proofs.Laws.{rewitnessOf, clean-rewitness, rotations}
+use Rattle.judge_structs.proofs.rotate.Statement.{statement}
+use Rattle.judge_structs.proofs.rotate.Tie as tie
 
 chain-requires : tie.Need-chain-requires
 chain-requires c κs = search needs

@@ -1,9 +1,9 @@
 use mathlib.Core.Path.{sym, _∙_}
 use borrow.Author.Needs.{needs}
 use Rattle.answer.proofs.Laws.{here, past, last}
 use Rattle.rules.proofs.Laws.{clean-receipts}
-use Rattle.rules.proofs.inception_witnesses.Statement.{statement}
-use Rattle.rules.proofs.inception_witnesses.Tie as tie
+use Rattle.judge_structs.proofs.inception_witnesses.Statement.{statement}
+use Rattle.judge_structs.proofs.inception_witnesses.Tie as tie
 
 may-commit-requires : tie.Need-may-commit-requires
 may-commit-requires c κs = search needs

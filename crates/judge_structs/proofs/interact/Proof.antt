@@ -1,10 +1,10 @@
 use mathlib.Core.Path.{sym, _∙_}
 use borrow.Author.Needs.{needs}
 use Rattle.answer.proofs.Laws.{here, past, last}
 use Rattle.rules.specs.Rules.{interaction}
 use Rattle.rules.proofs.Laws.{clean-receipts}
-use Rattle.rules.proofs.interact.Statement.{statement}
-use Rattle.rules.proofs.interact.Tie as tie
+use Rattle.judge_structs.proofs.interact.Statement.{statement}
+use Rattle.judge_structs.proofs.interact.Tie as tie
 
 only-establishment-requires : tie.Need-only-establishment-requires
 only-establishment-requires c κs = search needs

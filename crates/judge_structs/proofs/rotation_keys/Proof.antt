@@ -2,8 +2,8 @@ use mathlib.Core.Path.{refl, sym, _∙_}
 use borrow.Author.Needs.{needs}
 use Rattle.answer.proofs.Laws.{here, past, last}
 use Rattle.authority.proofs.Laws.{clean-quorum}
-use Rattle.rules.proofs.rotation_keys.Statement.{statement}
-use Rattle.rules.proofs.rotation_keys.Tie as tie
+use Rattle.judge_structs.proofs.rotation_keys.Statement.{statement}
+use Rattle.judge_structs.proofs.rotation_keys.Tie as tie
 
 own-form-requires : tie.Need-own-form-requires
 own-form-requires c κs = search needs

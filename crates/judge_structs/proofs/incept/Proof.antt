@@ -2,9 +2,9 @@ use mathlib.Core.Path.{sym, _∙_}
 use borrow.Author.Needs.{needs}
 use Rattle.evidence.specs.Evidence.{signedOn, receiptedOn}
 use Rattle.answer.proofs.Laws.{here, past, last, clean-first}
 use Rattle.rules.proofs.Laws.{witnessesOf, incepts}
-use Rattle.rules.proofs.incept.Statement.{statement}
-use Rattle.rules.proofs.incept.Tie as tie
+use Rattle.judge_structs.proofs.incept.Statement.{statement}
+use Rattle.judge_structs.proofs.incept.Tie as tie
 
 inception-start-requires : tie.Need-inception-start-requires
 inception-start-requires c κs = search needs

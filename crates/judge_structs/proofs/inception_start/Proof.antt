@@ -1,9 +1,9 @@
 use mathlib.Core.Path.{sym, _∙_}
 use borrow.Author.Needs.{needs}
 use Rattle.answer.proofs.Laws.{here, past, last}
 use Rattle.rules.proofs.Laws.{clean-witnesses}
-use Rattle.rules.proofs.inception_start.Statement.{statement}
-use Rattle.rules.proofs.inception_start.Tie as tie
+use Rattle.judge_structs.proofs.inception_start.Statement.{statement}
+use Rattle.judge_structs.proofs.inception_start.Tie as tie
 
 genesis-sn-requires : tie.Need-genesis-sn-requires
 genesis-sn-requires c κs = search needs
