@@ -3,10 +3,9 @@ use mathlib.Core.Path.{_≡_, refl}
 use mathlib.Core.List.{[], _∷_}
 use mathlib.Core.Bool.{false}
 use lib.ListN.{replicate}
+use Rattle.number.specs.declared.Number.{Number}
 use Rattle.number.specs.Number.{small}
 use Rattle.answer.specs.Answer.{refused}
-use Rattle.state.specs.declared.Holder.{Holder}
-use Rattle.state.specs.State.{isHeld}
 use Rattle.lines.specs.Lines.{numeral, decimal, detail, decimalThen, detailThen, hidesMark, markThen, reachedThen, line, endLine}
 
 pub first : line 1 0x4452 (refused 8 0 0) ≡ 0x31 ∷ 0x20 ∷ 0x44 ∷ 0x52 ∷ 0x20 ∷ 0x38 ∷ 0x20 ∷ 0x30 ∷ 0x20 ∷ 0x30 ∷ 0x0A ∷ []
@@ -18,9 +17,9 @@ pub second : line 2 0x4900 (refused 1 0 0) ≡ 0x32 ∷ 0x20 ∷ 0x3F ∷ 0x3F �
 unfolding line decimalThen detailThen markThen hidesMark decimal detail numeral
 second = refl
 
-pub ended : (h : Holder) → isHeld h ≡ false → endLine 0 2 h ≡ 0x65 ∷ 0x6E ∷ 0x64 ∷ 0x20 ∷ 0x30 ∷ 0x20 ∷ 0x32 ∷ 0x20 ∷ 0x2D ∷ 0x0A ∷ []
+pub ended : (sn : Number) → endLine 0 2 false sn ≡ 0x65 ∷ 0x6E ∷ 0x64 ∷ 0x20 ∷ 0x30 ∷ 0x20 ∷ 0x32 ∷ 0x20 ∷ 0x2D ∷ 0x0A ∷ []
 unfolding endLine decimalThen reachedThen decimal numeral
-ended h e = rw e
+ended sn = refl
 
 pub least : detail (small 0) ≡ 0x30 ∷ []
 unfolding detail numeral

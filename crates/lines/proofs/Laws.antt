@@ -16,8 +16,6 @@ use Rattle.lists.specs.Lists.{pick}
 use Rattle.number.specs.declared.Number.{Number}
 use Rattle.number.specs.Number.{value}
 use Rattle.answer.specs.declared.Answer.{Answer}
-use Rattle.state.specs.declared.Holder.{Holder}
-use Rattle.state.specs.State.{isHeld}
 use Rattle.writer.specs.Writing.{Wrote}
 use Rattle.writer.proofs.Laws.{Digits, digits-length}
 use Rattle.lines.specs.Lines.{glyph, digits, numeral, decimal, detail, decimalThen, detailThen, hidesMark, markThen, reachedThen, space, feed, line, endLine, longest, written}
@@ -142,13 +140,13 @@ unfolding markThen
 shown behind number mark h = rw h
 
 -- ---- How far the holder is
-pub reached-held : (behind : ℕ) (h : Holder) → isHeld h ≡ true → reachedThen behind h ≡ detailThen behind (h .state .sn)
+pub reached-held : (behind : ℕ) (held : Bool) (sn : Number) → held ≡ true → reachedThen behind held sn ≡ detailThen behind sn
 unfolding reachedThen
-reached-held behind h e = rw e
+reached-held behind held sn e = rw e
 
-pub reached-empty : (behind : ℕ) (h : Holder) → isHeld h ≡ false → reachedThen behind h ≡ 0x2D ∷ behind ∷ []
+pub reached-empty : (behind : ℕ) (held : Bool) (sn : Number) → held ≡ false → reachedThen behind held sn ≡ 0x2D ∷ behind ∷ []
 unfolding reachedThen
-reached-empty behind h e = rw e
+reached-empty behind held sn e = rw e
 
 -- ---- How long a line is
 then-few : (xs : List ℕ) (most behind : ℕ) → length xs ≤ most → length (xs ++ (behind ∷ [])) ≤ most + 1
@@ -170,12 +168,12 @@ mark-few behind number mark = go (hidesMark number)
     go true = omega arith
     go false = omega arith
 
-reached-few : (behind : ℕ) (h : Holder) → length (reachedThen behind h) ≤ 33
+reached-few : (behind : ℕ) (held : Bool) (sn : Number) → length (reachedThen behind held sn) ≤ 33
 unfolding reachedThen
-reached-few behind h = go (isHeld h)
+reached-few behind held sn = go held
   where
-    go : (t : Bool) → length (pick t (detailThen behind (h .state .sn)) (0x2D ∷ behind ∷ [])) ≤ 33
-    go true = detail-few behind (h .state .sn)
+    go : (t : Bool) → length (pick t (detailThen behind sn) (0x2D ∷ behind ∷ [])) ≤ 33
+    go true = detail-few behind sn
     go false = omega arith
 
 pub line-few : (ordinal mark : ℕ) (x : Answer) → length (line ordinal mark x) ≤ longest
@@ -188,12 +186,12 @@ line-few ordinal mark x =
     let b = detail-few feed (x .b) in
     simp length-append (omega arith)
 
-pub end-few : (accepted offered : ℕ) (h : Holder) → length (endLine accepted offered h) ≤ longest
+pub end-few : (accepted offered : ℕ) (held : Bool) (sn : Number) → length (endLine accepted offered held sn) ≤ longest
 unfolding endLine
-end-few accepted offered h =
+end-few accepted offered held sn =
     let a = decimal-few space accepted in
     let o = decimal-few space offered in
-    let r = reached-few feed h in
+    let r = reached-few feed held sn in
     simp length-append (omega arith)
 
 -- ---- A line where there is room, and where there is none

@@ -10,8 +10,6 @@ use Rattle.lists.specs.Lists.{pick, either}
 use Rattle.number.specs.declared.Number.{Number}
 use Rattle.number.specs.Number.{value}
 use Rattle.answer.specs.declared.Answer.{Answer}
-use Rattle.state.specs.declared.Holder.{Holder}
-use Rattle.state.specs.State.{isHeld}
 use Rattle.writer.specs.Writing.{over}
 
 -- ---- Numbers
@@ -59,8 +57,8 @@ markThen behind number mark =
     pick (hidesMark number) (0x3F ∷ 0x3F ∷ behind ∷ []) (mark / 256 ∷ mark % 256 ∷ behind ∷ [])
 
 -- "sn written as a detail, or `-` for an empty holder": - is 0x2D
-unfoldable pub reachedThen : ℕ → Holder → List ℕ
-reachedThen behind h = pick (isHeld h) (detailThen behind (h .state .sn)) (0x2D ∷ behind ∷ [])
+unfoldable pub reachedThen : ℕ → Bool → Number → List ℕ
+reachedThen behind held sn = pick held (detailThen behind sn) (0x2D ∷ behind ∷ [])
 
 -- ---- Lines
 unfoldable pub line : ℕ → ℕ → Answer → List ℕ
@@ -72,10 +70,10 @@ line ordinal mark x =
     ++ detailThen feed (x .b))))
 
 -- e, n, d
-unfoldable pub endLine : ℕ → ℕ → Holder → List ℕ
-endLine accepted offered h =
+unfoldable pub endLine : ℕ → ℕ → Bool → Number → List ℕ
+endLine accepted offered held sn =
     (0x65 ∷ 0x6E ∷ 0x64 ∷ space ∷ [])
-    ++ (decimalThen space accepted ++ (decimalThen space offered ++ reachedThen feed h))
+    ++ (decimalThen space accepted ++ (decimalThen space offered ++ reachedThen feed held sn))
 
 -- ---- Writing
 -- No line is longer than 20 + 1 + 2 + 1 + 20 + 1 + 32 + 1 + 32 + 1 bytes, a number of an answer taken as any other.

@@ -8,7 +8,6 @@ ghost use Rattle.lines.specs.Lines.{digits, numeral, detail, decimalThen
 ghost use Rattle.lines.specs.Lines.{glyph as Lines·glyph};
 use answer::Answer;
 use number::Number;
-use state::Holder;
 
 // How many bytes a line may have: who lends a buffer leaves room for them.
 pub const LONGEST: usize = 111;
@@ -133,27 +132,24 @@ fn put_answer(buf: &mut [u8], at: usize, ordinal: u64, mark: u16, x: Answer) -> 
 }
 
 // "sn written as a detail, or `-` for an empty holder"
-fn put_reached(buf: &mut [u8], at: usize, h: Holder, behind: u8) -> usize
-    requires { ⌜ Room (reachedThen behind h) at (now buf) ⌝ }
-    ensures { λ r. ⌜ Wrote (reachedThen behind h) at (now (buf .entry)) r (now (buf .exit)) ⌝ }
+fn put_reached(buf: &mut [u8], at: usize, held: bool, sn: Number, behind: u8) -> usize
+    requires { ⌜ Room (reachedThen behind held sn) at (now buf) ⌝ }
+    ensures { λ r. ⌜ Wrote (reachedThen behind held sn) at (now (buf .entry)) r (now (buf .exit)) ⌝ }
 {
-    let held = h.held;
     if !held {
         return writer::bytes(buf, at, &[b'-', behind]);
     }
-    let s = h.state;
-    let sn = s.sn;
     put_detail(buf, at, sn, behind)
 }
 
-fn put_counts(buf: &mut [u8], at: usize, accepted: u64, offered: u64, h: Holder) -> usize
-    requires { ⌜ Room (endLine accepted offered h) at (now buf) ⌝ }
-    ensures { λ r. ⌜ Wrote (endLine accepted offered h) at (now (buf .entry)) r (now (buf .exit)) ⌝ }
+fn put_counts(buf: &mut [u8], at: usize, accepted: u64, offered: u64, held: bool, sn: Number) -> usize
+    requires { ⌜ Room (endLine accepted offered held sn) at (now buf) ⌝ }
+    ensures { λ r. ⌜ Wrote (endLine accepted offered held sn) at (now (buf .entry)) r (now (buf .exit)) ⌝ }
 {
     let p = writer::bytes(buf, at, b"end ");
     let q = put_decimal(buf, p, accepted, b' ');
     let r = put_decimal(buf, q, offered, b' ');
-    put_reached(buf, r, h, b'\n')
+    put_reached(buf, r, held, sn, b'\n')
 }
 
 // The line of an answer. It gives the place behind the line; where the longest line has no room, nothing is written.
@@ -168,12 +164,12 @@ pub fn put_line(buf: &mut [u8], at: usize, ordinal: u64, mark: u16, x: Answer) -
 }
 
 // The last line, in the same way.
-pub fn put_end(buf: &mut [u8], at: usize, accepted: u64, offered: u64, h: Holder) -> usize
-    ensures { λ r. ⌜ r ≡ written (endLine accepted offered h) at (now (buf .entry)) .0 ⌝ }
-    ensures { λ _. ⌜ now (buf .exit) ≡ written (endLine accepted offered h) at (now (buf .entry)) .1 ⌝ }
+pub fn put_end(buf: &mut [u8], at: usize, accepted: u64, offered: u64, held: bool, sn: Number) -> usize
+    ensures { λ r. ⌜ r ≡ written (endLine accepted offered held sn) at (now (buf .entry)) .0 ⌝ }
+    ensures { λ _. ⌜ now (buf .exit) ≡ written (endLine accepted offered held sn) at (now (buf .entry)) .1 ⌝ }
 {
     if !writer::room(buf, at, LONGEST) {
         return at;
     }
-    put_counts(buf, at, accepted, offered, h)
+    put_counts(buf, at, accepted, offered, held, sn)
 }

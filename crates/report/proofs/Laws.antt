@@ -1,21 +1,25 @@
 -- Counting, and what a line leaves. Assumes nothing.
 use mathlib.Core.Path.{_≡_, refl, sym, ap, _∙_}
+use mathlib.Core.Bool.{Bool, true, false}
 use mathlib.Core.List.{List, []}
 use Prim.Native.Nat.{ℕ, _+_, _<_, _≤_}
-use lib.Dec.{eqb}
 use borrow.Author.Tests.{lt-ltb, le-ltb, eq-eqb, ne-eqb}
-use Rattle.lists.specs.Lists.{pick}
+use lib.ListN.{take, drop}
+use Rattle.number.specs.declared.Number.{Number}
 use Rattle.answer.specs.declared.Answer.{Answer}
-use Rattle.answer.specs.Answer.{refused}
-use Rattle.state.specs.declared.Holder.{Holder}
-use Rattle.shape.specs.State.{holderShape}
+use Rattle.state.specs.declared.KeyState.{KeyState}
+use Rattle.state.specs.State.{isHeld, holding}
+use Rattle.empty.specs.Empty.{nothing}
 use Rattle.layout.specs.Records.{firstOf, truncated}
-use Rattle.ingest.specs.Judgement.{turnedAway}
-use Rattle.receive.specs.Received.{unlessBad, received}
-use Rattle.lines.specs.Lines.{line, endLine, written}
+use Rattle.record.specs.declared.StateMarks.{StateMarks}
+use Rattle.record.specs.Marks.{stateOf}
+use Rattle.found.specs.declared.Held as H
+use Rattle.found.specs.Kept.{Kept, keptIn}
+use Rattle.found.specs.Found.{keptIs}
+use Rattle.lines.specs.Lines.{line, endLine, reachedThen, written}
 use Rattle.report.specs.declared.Tally.{Tally}
 use Rattle.report.specs.declared.Told.{Told}
-use Rattle.report.specs.Report.{oneMore, counted, lineOf, told, lastLine, cutAnswer}
+use Rattle.report.specs.Report.{oneMore, counted, lineOf, told, endOf, lastLine}
 
 pub more : (n : ℕ) → n < 0xFFFFFFFFFFFFFFFF → n + 1 ≡ oneMore n
 unfolding oneMore
@@ -48,30 +52,37 @@ unfolding told lineOf
 noted t s mark x at out n p b e f g h =
     (as-told f (g ∙ ap (λ (m : ℕ). written (line m mark x) at out .0) e), h ∙ ap (λ (m : ℕ). written (line m mark x) at out .1) e)
 
-pub ended : (t : Tally) (h : Holder) (at : ℕ) (out : List ℕ) (p : ℕ) (b : List ℕ)
-    → (p ≡ written (endLine (t .accepted) (t .offered) h) at out .0) × (b ≡ written (endLine (t .accepted) (t .offered) h) at out .1)
-    → (p ≡ written (lastLine t h) at out .0) × (b ≡ written (lastLine t h) at out .1)
-unfolding lastLine
-ended t h at out p b w = w
+-- ---- How far the state is: no number is shown where none is held
+at-held : (t : Tally) (k : KeyState) → endOf t true (k .sn) ≡ lastLine t (holding k)
+unfolding lastLine isHeld
+at-held t k = refl
+
+at-nothing : (t : Tally) (sn : Number) → endOf t false sn ≡ lastLine t nothing
+unfolding lastLine isHeld endLine reachedThen
+at-nothing t sn = refl
+
+-- a line that was put is another that is the same
+abbrev Put : List ℕ → ℕ → List ℕ → ℕ → List ℕ → Type 0
+Put xs at out p b = (p ≡ written xs at out .0) × (b ≡ written xs at out .1)
+
+as-line : {xs ys : List ℕ} (at : ℕ) (out : List ℕ) {p : ℕ} {b : List ℕ} → xs ≡ ys → Put xs at out p b → Put ys at out p b
+as-line at out e w = rw e at w
+
+module _ (t : Tally) (buf : List ℕ) (used : ℕ) (x : H.Held) (is : keptIs (take used buf) x ≡ keptIn buf used) where
+  as-held : (y : H.Held) → x ≡ y → lastLine t (keptIs (take used buf) y .holder) ≡ lastLine t (keptIn buf used .holder)
+  as-held y e = ap (λ (z : H.Held). lastLine t (keptIs (take used buf) z .holder)) (sym e) ∙ ap (λ (k : Kept). lastLine t (k .holder)) is
+
+  module _ (at : ℕ) (out : List ℕ) {p : ℕ} {b : List ℕ} where
+    pub ended-at : (m : StateMarks) → x ≡ H.the-variants.Of m → Put (endOf t true (m .head .sn)) at out p b → Put (lastLine t (keptIn buf used .holder)) at out p b
+    ended-at m e w = as-line at out (at-held t (stateOf (drop 4 (take used buf)) m) ∙ as-held (H.the-variants.Of m) e) w
+
+    pub ended-nothing : x ≡ H.the-variants.Nothing → (n : Number) → Put (endOf t false n) at out p b → Put (lastLine t (keptIn buf used .holder)) at out p b
+    ended-nothing e n w = as-line at out (at-nothing t n ∙ as-held H.the-variants.Nothing e) w
+
+    pub ended-bad : (k : ℕ) → x ≡ H.the-variants.No k → (n : Number) → Put (endOf t false n) at out p b → Put (lastLine t (keptIn buf used .holder)) at out p b
+    ended-bad k e n w = as-line at out (at-nothing t n ∙ as-held (H.the-variants.No k) e) w
 
 -- ---- Bytes that are no record
 pub none : firstOf [] ≡ truncated
 unfolding firstOf
 none = refl
-
-cut-is : (h : Holder) → cutAnswer h ≡ unlessBad h (turnedAway h 1) .answer
-unfolding received
-cut-is h = rw (none, cutAnswer)
-
-bad-shape : (h : Holder) (m : ℕ) → (m ≡ 0 → ⊥) → refused m 0 0 ≡ pick (eqb m 0) (turnedAway h 1) (turnedAway h m) .answer
-bad-shape h m z = rw (ne-eqb m 0 z)
-
-good-shape : (h : Holder) (m : ℕ) → m ≡ 0 → refused 1 0 0 ≡ pick (eqb m 0) (turnedAway h 1) (turnedAway h m) .answer
-good-shape h m z = rw (eq-eqb m 0 z)
-
-module _ (h : Holder) (n : ℕ) (x : Answer) (e : n ≡ holderShape h) where
-  pub cut-bad : (n ≡ 0 → ⊥) → x ≡ refused n 0 0 → x ≡ cutAnswer h
-  cut-bad z f = f ∙ ap (λ (m : ℕ). refused m 0 0) e ∙ bad-shape h (holderShape h) (λ w. z (e ∙ w)) ∙ sym (cut-is h)
-
-  pub cut-good : n ≡ 0 → x ≡ refused 1 0 0 → x ≡ cutAnswer h
-  cut-good z f = f ∙ good-shape h (holderShape h) (sym e ∙ z) ∙ sym (cut-is h)

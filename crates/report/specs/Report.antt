@@ -2,12 +2,15 @@
 -- accepted (lines with answer 0, a KS too), offered (all lines), and sn written as a detail, or `-` for an empty holder."
 use Prim.Native.Nat.{ℕ, zero, suc, _+_}
 use mathlib.Core.List.{List, [], _∷_, _++_}
+use mathlib.Core.Bool.{Bool}
 use lib.Dec.{ltb}
 use lib.ListN.{length, drop}
 use Rattle.lists.specs.Lists.{pick}
+use Rattle.number.specs.declared.Number.{Number}
 use Rattle.answer.specs.declared.Answer.{Answer}
 use Rattle.answer.specs.Answer.{passes}
 use Rattle.state.specs.declared.Holder.{Holder}
+use Rattle.state.specs.State.{isHeld}
 use Rattle.empty.specs.Empty.{nothing}
 use Rattle.receive.specs.Received.{received}
 use Rattle.lines.specs.Lines.{line, endLine, written}
@@ -32,8 +35,11 @@ unfoldable pub told : Tally → ℕ → Answer → ℕ → List ℕ → Told × 
 told t mark x at out =
     (record { tally = counted t x; at = written (lineOf t mark x) at out .0 }, written (lineOf t mark x) at out .1)
 
+abbrev pub endOf : Tally → Bool → Number → List ℕ
+endOf t held sn = endLine (t .accepted) (t .offered) held sn
+
 unfoldable pub lastLine : Tally → Holder → List ℕ
-lastLine t h = endLine (t .accepted) (t .offered) h
+lastLine t h = endOf t (isHeld h) (h .state .sn)
 
 -- bytes that are no record: "is 1 and ends the input"
 abbrev pub cutAnswer : Holder → Answer

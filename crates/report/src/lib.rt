@@ -1,9 +1,11 @@
 // What is reported of a run: a line for each answer, the counts that go from one to the next, and the last line.
 ghost use mathlib.Core.Path.{_≡_};
 ghost use Rattle.lines.specs.Lines.{written};
-ghost use Rattle.report.specs.Report.{oneMore, counted, told, lastLine, cutAnswer, untold};
+ghost use Rattle.found.specs.Kept.{keptIn};
+ghost use Rattle.report.specs.Report.{oneMore, counted, told, endOf, lastLine, untold};
 use answer::Answer;
-use state::Holder;
+use found::Held;
+use number::Number;
 
 // How many lines there are, and how many have answer 0.
 pub struct Tally {
@@ -58,21 +60,30 @@ pub fn tell(t: Tally, mark: u16, x: Answer, out: &mut [u8], at: usize) -> Told
     Told { tally, at: behind }
 }
 
-// What bytes that are no record get: 1, behind the holder's own shape.
-pub fn cut(h: Holder) -> Answer
-    ensures { λ r. ⌜ r ≡ cutAnswer h ⌝ }
+fn end_line(t: Tally, held: bool, sn: Number, out: &mut [u8], at: usize) -> usize
+    ensures { λ r. ⌜ r ≡ written (endOf t held sn) at (now (out .entry)) .0 ⌝ }
+    ensures { λ _. ⌜ now (out .exit) ≡ written (endOf t held sn) at (now (out .entry)) .1 ⌝ }
 {
-    let n = shape::of_holder(h);
-    if n != 0 {
-        return answer::refuse(n, 0, 0);
-    }
-    answer::refuse(1, 0, 0)
+    lines::put_end(out, at, t.accepted, t.offered, held, sn)
 }
 
-// The last line.
-pub fn tell_end(t: Tally, h: Holder, out: &mut [u8], at: usize) -> usize
-    ensures { λ r. ⌜ r ≡ written (lastLine t h) at (now (out .entry)) .0 ⌝ }
-    ensures { λ _. ⌜ now (out .exit) ≡ written (lastLine t h) at (now (out .entry)) .1 ⌝ }
+// The last line, with how far the state in the used bytes of a buffer is.
+pub fn tell_end(t: Tally, state: &[u8], used: usize, out: &mut [u8], at: usize) -> usize
+    ensures { λ r. ⌜ r ≡ written (lastLine t (keptIn (now (state .entry)) used .holder)) at (now (out .entry)) .0 ⌝ }
+    ensures { λ _. ⌜ now (out .exit) ≡ written (lastLine t (keptIn (now (state .entry)) used .holder)) at (now (out .entry)) .1 ⌝ }
 {
-    lines::put_end(out, at, t.accepted, t.offered, h)
+    match found::in_buffer(state, used) {
+        Held::Of(m) => {
+            let head = m.head;
+            end_line(t, true, head.sn, out, at)
+        }
+        Held::Nothing => {
+            let zero = number::from_u64(0);
+            end_line(t, false, zero, out, at)
+        }
+        Held::No(_) => {
+            let zero = number::from_u64(0);
+            end_line(t, false, zero, out, at)
+        }
+    }
 }

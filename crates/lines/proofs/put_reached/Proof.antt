@@ -1,8 +1,6 @@
 use Rattle.writer.proofs.Laws.{same-bytes, same-room, wrote}
 use Rattle.lines.proofs.Laws.{reached-held, reached-empty}
-use Rattle.state.proofs.Laws.{is-held}
 use borrow.Author.Tests.{not-true, not-false}
-use mathlib.Core.Bool.{true, false}
 use mathlib.Core.Path.{sym}
 use Prim.Native.Nat.{_-_}
 use borrow.Author.Needs.{needs}
@@ -21,22 +19,22 @@ same-length c = search needs
 returns : tie.Need-returns
 returns c =
     let a = c .before .before .before .before .before .before .before .args in
-    let e = reached-empty (a .behind) (a .h) (is-held (a .h) false (not-true (a .h .held) (c .before .before .before .before .before .if1 .taken))) in
+    let e = reached-empty (a .behind) (a .held) (a .sn) (not-true (a .held) (c .before .before .before .before .before .if1 .taken)) in
     same-bytes (sym e) (wrote _ _ _ (same-room (a .at) (a .buf .now) e (c .before .before .before .before .before .before .before .pre)) (c .before .before .bytes .ensures))
 
 put-detail-requires : tie.Need-put-detail-requires
 put-detail-requires c κs =
-    let a = c .before .before .before .before .before .args in
-    let e = reached-held (a .behind) (a .h) (is-held (a .h) true (not-false (a .h .held) (c .before .before .before .if1 .left))) in
-    rw e at (c .before .before .before .before .before .pre)
+    let a = c .before .before .before .args in
+    let e = reached-held (a .behind) (a .held) (a .sn) (not-false (a .held) (c .before .if1 .left)) in
+    rw e at (c .before .before .before .pre)
 
 same-length-2 : tie.Need-same-length-2
 same-length-2 c = search needs
 
 returns-2 : tie.Need-returns-2
 returns-2 c =
-    let a = c .before .before .before .before .before .before .before .before .args in
-    let e = reached-held (a .behind) (a .h) (is-held (a .h) true (not-false (a .h .held) (c .before .before .before .before .before .before .if1 .left))) in
+    let a = c .before .before .before .before .before .before .args in
+    let e = reached-held (a .behind) (a .held) (a .sn) (not-false (a .held) (c .before .before .before .before .if1 .left)) in
     same-bytes (sym e) (c .before .before .put-detail .ensures)
 
 pub put-reached-spec : {M : Type 1} → statement M
