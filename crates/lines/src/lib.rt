@@ -1,6 +1,5 @@
 // Document 01's lines as bytes: one for each answer, and the last one. Each is written over a lent buffer from a place on.
 ghost use mathlib.Core.Path.{_≡_};
-ghost use mathlib.Core.List.{[], _∷_};
 ghost use Prim.Native.Nat.{_≤_, _<_};
 ghost use lib.ListN.{length};
 ghost use Rattle.writer.specs.Writing.{Room, Wrote};

@@ -7,7 +7,7 @@ ghost use lib.Dec.{leb};
 ghost use lib.ListN.{length};
 ghost use Rattle.writer.specs.Writing.{be, put};
 
-// The sum is not made before it is known to fit: `at` may be any number.
+// Whether n bytes have room from `at` on. Their sum is not made: it could be too large.
 pub fn room(buf: &[u8], at: usize, n: usize) -> bool
     ensures { λ r. ⌜ r ≡ leb (at + n) (length (now (buf .entry))) ⌝ }
 {
