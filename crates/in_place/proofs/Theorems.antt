@@ -30,7 +30,7 @@ use Rattle.writer.specs.Writing.{over}
 use Rattle.snapshot.specs.Saved.{bodyBytes, encoded, saved}
 use Rattle.snapshot.proofs.Size.{record-size}
 use Rattle.receive.specs.Received.{taken, unlessBad, bodyTaken, firstTaken, received}
-use Rattle.receive.proofs.Laws.{stays-taken, stays-unless}
+use Rattle.receive.proofs.Laws.{stays-taken, stays-unless, stays-received}
 use Rattle.canonical.specs.Bytes.{Bytes}
 use Rattle.resume.proofs.Real.{Real}
 use Rattle.resume.proofs.Decoded.{bytes-take, decoded-real}
@@ -348,7 +348,22 @@ module _ (buf : List ℕ) (used : ℕ) (s : List ℕ) (bytes : Bytes buf) (input
     pub folded-suffices : 2285 ≤ length buf → size foldedNext ≤ length buf
     folded-suffices p = enough buf used good folds folded-fine took p
 
--- ---- a body by its mark: what is answered and what is held after it are the definition's, for every body
+-- ---- a byte string, and a body by its mark: what is answered and what is held after it are the definition's
+module _ (buf : List ℕ) (used : ℕ) (s : List ℕ) (bytes : Bytes buf) (input : Bytes s) (good : keptIn buf used .number ≡ 0) (large : 2285 ≤ length buf) where
+  abbrev gives : Holder → Offered
+  gives h = received h s .offered
+
+  fine-gives : Fine (gives (keptIn buf used .holder))
+  fine-gives = fine-received (keptIn buf used .holder) (sound-kept buf used bytes) s input
+
+  pub offer-answer : offeredIn buf used s .answer ≡ received (keptIn buf used .holder) s .offered .answer
+  unfolding offeredIn
+  offer-answer = on-answer buf used good large gives fine-gives (stays-received (keptIn buf used .holder) s)
+
+  pub offer-kept : keptIn (offeredIn buf used s .bytes) (offeredIn buf used s .used) ≡ one (received (keptIn buf used .holder) s .offered .holder)
+  unfolding offeredIn
+  offer-kept = on-kept buf used good large gives fine-gives (stays-received (keptIn buf used .holder) s)
+
 module _ (buf : List ℕ) (used mark : ℕ) (body : List ℕ) (bytes : Bytes buf) (input : Bytes body) (good : keptIn buf used .number ≡ 0) (large : 2285 ≤ length buf) where
   abbrev now : Holder
   now = keptIn buf used .holder

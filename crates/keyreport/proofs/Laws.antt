@@ -1,5 +1,5 @@
 -- Lines in the output buffer, records in the window. Assumes nothing.
-use mathlib.Core.Path.{_≡_, sym, ap}
+use mathlib.Core.Path.{_≡_, sym, ap, _∙_}
 use mathlib.Core.List.{List}
 use Prim.Native.Nat.{ℕ, _+_, _-_, _≤_}
 use native.Mathlib.Omega.{arith}
@@ -8,6 +8,9 @@ use lib.Seq.{length-take-le}
 use borrow.Author.Tests.{le-leb}
 use Rattle.answer.specs.declared.Answer.{Answer}
 use Rattle.state.specs.declared.Holder.{Holder}
+use Rattle.state.specs.State.{isHeld}
+use Rattle.format.specs.Parse.{Parse, got, bad, numAt}
+use Rattle.cursor.proofs.Laws.{pair-got, pair-short}
 use Rattle.lines.specs.Lines.{line, longest, written}
 use Rattle.lines.proofs.Laws.{line-few, end-few}
 use Rattle.report.specs.declared.Tally.{Tally}
@@ -20,7 +23,7 @@ use Rattle.stream.specs.declared.Next.the-variants as N
 use Rattle.stream.specs.Window.{Stands, Found}
 use Rattle.keyreport.specs.declared.Room.{Room}
 use Rattle.keyreport.specs.declared.Room.the-variants as R
-use Rattle.keyreport.specs.Run.{Fits}
+use Rattle.keyreport.specs.Run.{markAt, Fits}
 
 pub prefix-length : (at : ℕ) (xs : List ℕ) → at ≤ length xs → at ≡ length (take at xs)
 prefix-length at xs h = sym (length-take-le at xs h)
@@ -39,7 +42,7 @@ told-in t mark x at out r e h =
 
 pub end-in : (t : Tally) (h : Holder) (at : ℕ) (out : List ℕ) (p : ℕ) → p ≡ written (lastLine t h) at out .0 → at + longest ≤ length out → p ≤ length out
 unfolding lastLine
-end-in t h at out p e k = rw e (written-in (lastLine t h) at out (end-few (t .accepted) (t .offered) h) k)
+end-in t h at out p e k = rw e (written-in (lastLine t h) at out (end-few (t .accepted) (t .offered) (isHeld h) (h .state .sn)) k)
 
 pub fits-from : (most at : ℕ) (x : Room) → x ≡ R.From at → Fits most x → at + longest ≤ most
 fits-from most at x e h = rw e at h
@@ -47,3 +50,11 @@ fits-from most at x e h = rw e at h
 -- ---- A record in the window
 pub found : (before after : List ℕ) (old : Span) (p : Place) (x : Next) → x ≡ N.Record p → Found before old after x → Stands before old after p
 found before after old p x e h = rw e at h
+
+-- its mark, as it was read
+module _ (w : List ℕ) (p : Place) {r : Parse ℕ} (is : r ≡ numAt 2 w (p .from)) where
+  pub mark-is : (v n : ℕ) → r ≡ got v n → v ≡ markAt w p
+  mark-is v n e = pair-got w (p .from) v n (sym e ∙ is) .is
+
+  pub mark-there : (k : ℕ) → r ≡ bad k → p .from + 4 ≤ p .to → p .to ≤ length w → 0 ≡ markAt w p
+  mark-there k e b i = let h = pair-short w (p .from) k (sym e ∙ is) in absurd (omega arith)

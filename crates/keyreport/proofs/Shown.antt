@@ -1,8 +1,10 @@
 -- The program's step is the report's. The input cannot be named in a contract, so it is named here: let s be the input from the
 -- record's first byte on, and let the window show its first bytes. Then the line that the program writes for the record in the
--- window, the tally and the holder after it are those of s's report. Assumes nothing.
+-- window, the tally and the state after it are those of s's report. Assumes nothing.
+--     step-shown                   the record in the window, for a holder
+--     answer-shown, state-shown    the call on the state's bytes, beside the holder's; cut-shown: where the input ends
 use mathlib.Core.Path.{_≡_, refl, sym, ap, _∙_}
-use mathlib.Core.List.{List, _++_}
+use mathlib.Core.List.{List, [], _++_}
 use mathlib.Core.Logic.{inl, inr}
 use mathlib.Core.Bool.{Bool, true, false}
 use Prim.Native.Nat.{ℕ, suc, _+_, _-_, _≤_, _<_}
@@ -11,12 +13,17 @@ use native.Mathlib.Omega.{arith}
 use lib.Dec.{leb}
 use lib.ListN.{length, take, drop, getD, length-drop}
 use lib.Seq.{getD-drop, getD-take, drop-drop}
-use borrow.Author.Tests.{leb-false}
+use borrow.Author.Tests.{le-leb, leb-false}
 use Rattle.state.specs.declared.Holder.{Holder}
+use Rattle.empty.specs.Empty.{nothing}
 use Rattle.layout.specs.Records.{markOf, bodyLength}
+use Rattle.canonical.specs.Bytes.{Bytes}
 use Rattle.receive.specs.Received.{bodyTaken}
 use Rattle.report.specs.declared.Tally.{Tally}
-use Rattle.report.specs.Report.{counted, lineOf, reported}
+use Rattle.found.specs.Kept.{one, stateIn, keptIn}
+use Rattle.in_place.specs.Calls.{bodyOfferedIn, offeredIn}
+use Rattle.in_place.proofs.Theorems.{body-answer, body-kept, offer-answer}
+use Rattle.report.specs.Report.{counted, lineOf, cutAnswer, reported}
 use Rattle.report.proofs.Stream.{Whole, Enough, record-step}
 use Rattle.stream.specs.declared.Span.{Span}
 use Rattle.stream.specs.declared.Place.{Place}
@@ -79,3 +86,25 @@ module _ (before : List ℕ) (old : Span) (w : List ℕ) (p : Place) (st : Stand
       ≡ lineOf t (markAt w p) (bodyTaken h (markAt w p) (bodyAt w p) .answer)
       ++ reported n (counted t (bodyTaken h (markAt w p) (bodyAt w p) .answer)) (bodyTaken h (markAt w p) (bodyAt w p) .holder) (drop (4 + bodyLength s) s)
   step-shown n t h = rw (mark, body) (record-step n t h s count whole enough)
+
+-- The state stays bytes: `buf` with `used` of them, which hold h. What the call answers, and what the bytes hold after it, are
+-- those of the report's step. A byte is below 256, so both hypotheses about bytes hold of every buffer.
+module _ (buf : List ℕ) (used : ℕ) (bytes : Bytes buf) (large : 2285 ≤ length buf) (good : keptIn buf used .number ≡ 0) where
+  abbrev held : Holder
+  held = keptIn buf used .holder
+
+  module _ (mark : ℕ) (body : List ℕ) (input : Bytes body) where
+    pub answer-shown : bodyOfferedIn buf used mark body .answer ≡ bodyTaken held mark body .answer
+    answer-shown = body-answer buf used mark body bytes input good large
+
+    pub state-shown : keptIn (bodyOfferedIn buf used mark body .bytes) (bodyOfferedIn buf used mark body .used) ≡ one (bodyTaken held mark body .holder)
+    state-shown = body-kept buf used mark body bytes input good large
+
+  -- bytes that are no record get what no bytes get
+  pub cut-shown : offeredIn buf used [] .answer ≡ cutAnswer held
+  cut-shown = offer-answer buf used [] bytes tt good large
+
+-- the buffer that the program begins with holds nothing
+pub begins : (buf : List ℕ) → keptIn buf 0 ≡ one nothing
+unfolding keptIn stateIn
+begins buf = rw (le-leb 0 (length buf) (omega arith))

@@ -27,13 +27,12 @@ use Rattle.decoded.proofs.Gives.{Each}
 use Rattle.layout.specs.Records.{Content, event, snapshot, refusal, contentOf, First, record-of, truncated, firstOf, nextIn, markOf, bodyLength}
 use Rattle.ingest.specs.Judgement.{turnedAway}
 use Rattle.receive.specs.Received.{taken, unlessBad}
-use Rattle.receive.proofs.Laws.{stays-taken, stays-unless}
+use Rattle.receive.proofs.Laws.{stays-first}
 use Rattle.log.specs.Log.{recordsFrom, given, after, answerAt, takes, foldStep, RunsOn}
 
 -- ---- a refusal leaves the holder as it came
 pub stays : (h : Holder) (f : First) → takes h f ≡ false → after h f ≡ h
-stays h (record-of mark c next) p = stays-unless h (taken h c) (stays-taken h c) p
-stays h truncated p = stays-unless h (turnedAway h 1) (λ q. refl) p
+stays h f p = stays-first h 0 f p
 
 -- ---- an acceptance: the holder was of good shape
 when-taken : (h : Holder) (x : Offered) → passes (unlessBad h x .answer) ≡ true → unlessBad h x ≡ x

@@ -26,15 +26,12 @@ use Rattle.ingest.specs.Judgement.{turnedAway}
 use Rattle.layout.specs.Records.{Content, First, firstOf, markOf, bodyLength}
 use Rattle.decoded.proofs.Bound.{first-bytes}
 use Rattle.receive.specs.Received.{taken, unlessBad, bodyTaken, received}
+use Rattle.receive.proofs.Laws.{stays-received}
 use Rattle.log.specs.Log.{recordsOf, after, answerAt, takes, held, kept, answers, foldStep, foldAll, RunsOn}
-use Rattle.log.proofs.Laws.{call-given}
 use Rattle.log.proofs.Steps.{stays, fold-same, takes-zero, ShapedFirst, records-shaped, counts-on}
 
 pub refusal-stays : (h : Holder) (s : List ℕ) → passes (received h s .offered .answer) ≡ false → received h s .offered .holder ≡ h
-unfolding received
-refusal-stays h s p =
-    let e = call-given h (length s) (firstOf s) in
-    ap (λ x. x .holder) e ∙ stays h (firstOf s) (ap (λ x. passes (x .answer)) (sym e) ∙ p)
+refusal-stays = stays-received
 
 module _ (h : Holder) (s : List ℕ) where
   pub held-is-fold : held h (recordsOf s) ≡ foldAll h (kept h (recordsOf s))

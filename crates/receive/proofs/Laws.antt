@@ -1,9 +1,11 @@
 -- From a judgement without a look at shapes to the definition; and what a refusal leaves. Assumes nothing.
 use mathlib.Core.Path.{_≡_, refl}
 use mathlib.Core.Bool.{Bool, true, false}
+use mathlib.Core.List.{List}
 use Prim.Native.Nat.{ℕ}
 use borrow.Author.Tests.{eq-eqb, ne-eqb}
 use lib.Dec.{eqb}
+use lib.ListN.{length}
 use Rattle.lists.specs.Lists.{pick}
 use Rattle.answer.specs.Answer.{passes}
 use Rattle.state.specs.declared.Holder.{Holder}
@@ -13,9 +15,9 @@ use Rattle.shape.specs.State.{holderShape}
 use Rattle.ingest.specs.declared.Offered.{Offered}
 use Rattle.ingest.specs.Judgement.{turnedAway, judgement, nextState, offered, answerTo}
 use Rattle.ingest.proofs.Laws.{good-shape, clean-judgement}
-use Rattle.layout.specs.Records.{Content, event, snapshot, refusal}
+use Rattle.layout.specs.Records.{Content, event, snapshot, refusal, First, record-of, truncated, firstOf}
 use Rattle.decoded.specs.Decoded.{Shaped}
-use Rattle.receive.specs.Received.{taken, unlessBad}
+use Rattle.receive.specs.Received.{taken, unlessBad, firstTaken, received}
 use Rattle.receive.specs.Judged.{contentJudged}
 
 -- ---- the holder's shape before anything
@@ -47,3 +49,11 @@ stays-unless h x f p = by-test (eqb (holderShape h) 0) p
     by-test : (t : Bool) → passes (pick t x (turnedAway h (holderShape h)) .answer) ≡ false → pick t x (turnedAway h (holderShape h)) .holder ≡ h
     by-test true q = f q
     by-test false q = refl
+
+pub stays-first : (h : Holder) (end : ℕ) (f : First) → passes (firstTaken h end f .offered .answer) ≡ false → firstTaken h end f .offered .holder ≡ h
+stays-first h end (record-of mark c next) p = stays-unless h (taken h c) (stays-taken h c) p
+stays-first h end truncated p = stays-unless h (turnedAway h 1) (λ q. refl) p
+
+pub stays-received : (h : Holder) (s : List ℕ) → passes (received h s .offered .answer) ≡ false → received h s .offered .holder ≡ h
+unfolding received
+stays-received h s p = stays-first h (length s) (firstOf s) p
