@@ -8,8 +8,11 @@ use std::hint::black_box;
 use std::time::Instant;
 
 use keri::{KeyState, KeyStateSnapshot, Signed};
-use oracle_lib::record::*;
+use oracle_lib::record::{Record, Signature};
 use oracle_lib::{reader, rust, writer};
+
+mod records;
+use records::*;
 
 unsafe extern "C" {
     fn timing_read(mark: u16, body: *const u8, len: usize, rounds: u64) -> u64;
@@ -18,116 +21,7 @@ unsafe extern "C" {
     fn keystate_offer(state: *mut u8, capacity: usize, used: *mut usize, input: *const u8, len: usize, details: *mut [u64; 4]) -> u8;
 }
 
-// ---- Records
-
-#[derive(Clone, Copy)]
-struct Size {
-    keys: usize,
-    weighted: bool,
-    signatures: usize,
-    receipts: usize,
-    witnesses: usize,
-    /// So many witnesses are cut and as many added.
-    change: usize,
-    /// The prefix is the first key, not a digest.
-    basic: bool,
-    /// Signatures agree in all but their last byte.
-    alike: bool,
-}
-
-const ONE: Size = Size { keys: 1, weighted: false, signatures: 1, receipts: 0, witnesses: 0, change: 0, basic: false, alike: false };
-const WIDEST: Size = Size { keys: 16, weighted: true, signatures: 48, receipts: 48, witnesses: 16, change: 16, basic: false, alike: false };
-
-fn item(code: u8, number: usize) -> Item {
-    let mut item = [0x55; 33];
-    item[0] = code;
-    item[32] = number as u8;
-    item
-}
-
-fn items(code: u8, from: usize, count: usize) -> Vec<Item> {
-    (from..from + count).map(|n| item(code, n)).collect()
-}
-
-fn prefix(z: Size) -> Item {
-    if z.basic { item(b'D', 0) } else { item(b'E', 1) }
-}
-
-/// One clause of weights 1/8: checked sums stay within 64 bits for 16 of them.
-fn threshold(z: Size) -> Threshold {
-    if z.weighted { Threshold::Weighted(vec![vec![(1, 8); z.keys]]) } else { Threshold::Simple(z.keys as u64) }
-}
-
-/// No two are copies. Their bytes look random, as those of real ones do; or they differ at their end only.
-fn signatures(count: usize, places: usize, ondex: bool, alike: bool) -> Vec<Signature> {
-    let mut seed: u64 = 88172645463325252;
-    let mut random = || {
-        seed ^= seed << 13;
-        seed ^= seed >> 7;
-        seed ^= seed << 17;
-        (seed >> 32) as u8
-    };
-    let one = |n: usize| {
-        let mut raw = [0; 64];
-        if alike {
-            raw[63] = n as u8;
-        } else {
-            raw.fill_with(&mut random);
-        }
-        let place = (n % places) as u32;
-        Signature { code: b'A', index: place, ondex: ondex.then_some(place), raw, verified: true, matches: true }
-    };
-    if places == 0 { vec![] } else { (0..count).map(one).collect() }
-}
-
-fn inception(z: Size) -> Record {
-    Record::Inception(Inception {
-        prefix: prefix(z),
-        sn: 0,
-        said: item(b'E', 1),
-        keys: items(b'D', 0, z.keys),
-        threshold: threshold(z),
-        next: items(b'E', 40, z.keys),
-        next_threshold: threshold(z),
-        witnesses: items(b'B', 0, z.witnesses),
-        toad: z.witnesses as u32,
-        config: vec![],
-        anchors: 0,
-        signatures: signatures(z.signatures, z.keys, false, z.alike),
-        receipts: signatures(z.receipts, z.witnesses, false, z.alike),
-    })
-}
-
-fn rotation(z: Size) -> Record {
-    Record::Rotation(Rotation {
-        prefix: prefix(z),
-        sn: 1,
-        said: item(b'E', 2),
-        prior: item(b'E', 1),
-        keys: items(b'D', 100, z.keys),
-        threshold: threshold(z),
-        next: items(b'E', 80, z.keys),
-        next_threshold: threshold(z),
-        additions: items(b'B', 100, z.change),
-        removals: items(b'B', 0, z.change),
-        toad: z.witnesses as u32,
-        anchors: 0,
-        signatures: signatures(z.signatures, z.keys, true, z.alike),
-        receipts: signatures(z.receipts, z.witnesses, false, z.alike),
-    })
-}
-
-fn interaction(z: Size) -> Record {
-    Record::Interaction(Interaction {
-        prefix: prefix(z),
-        sn: 1,
-        said: item(b'E', 2),
-        prior: item(b'E', 1),
-        anchors: 1,
-        signatures: signatures(z.signatures, z.keys, false, z.alike),
-        receipts: signatures(z.receipts, z.witnesses, false, z.alike),
-    })
-}
+// ---- The given Rust
 
 fn signed_parts(record: &Record) -> (&[Signature], &[Signature]) {
     match record {
@@ -137,8 +31,6 @@ fn signed_parts(record: &Record) -> (&[Signature], &[Signature]) {
         _ => (&[], &[]),
     }
 }
-
-// ---- The given Rust
 
 /// `ingest` takes its state by value. A view of the held one is made for each call, and its time is taken off again.
 fn judge<'e>(held: Option<&'e KeyStateSnapshot>, signed: &Signed<'e>) {
@@ -243,7 +135,7 @@ fn shapes(rounds: usize) {
     println!("| Shape | read: ours | Rust | ratio | judge: ours | Rust | ratio | device's call | Rust's both | ratio | by value | ratio |");
     println!("|---|---|---|---|---|---|---|---|---|---|---|---|");
     for (name, size) in [("one key", ONE), ("one key, its own prefix", Size { basic: true, ..ONE }), ("widest", WIDEST), ("widest, alike", Size { alike: true, ..WIDEST })] {
-        for (kind, before, record) in [("IC", None, inception(size)), ("RO", Some(size), rotation(size)), ("IX", Some(size), interaction(size))] {
+        for (kind, before, record) in [("IC", None, inception(size)), ("RO", Some(size), rotation(size, 1)), ("IX", Some(size), interaction(size, 1))] {
             let t = shape(rounds, before, &record);
             println!("| {name}, {kind} | {} | {} | {} | {:.0} ({:.0}) | {:.2} ({:.2}) |", pair(t[0], t[1]), pair(t[2], t[3]), pair(t[6], t[5]),
                 t[4].median, t[4].least, t[4].median / t[5].median, t[4].least / t[5].least);
@@ -257,7 +149,7 @@ fn growth(rounds: usize) {
     println!("| What grows | how many | judge: ours | Rust | ratio | device's call | Rust's both | ratio |");
     println!("|---|---|---|---|---|---|---|---|");
     let row = |what: &str, count: usize, size: Size| {
-        let t = shape(rounds, Some(size), &rotation(size));
+        let t = shape(rounds, Some(size), &rotation(size, 1));
         let (judge, call) = (t[2].least / t[3].least, t[6].least / t[5].least);
         println!("| {what} | {count} | {:.0} | {:.0} | {judge:.2} | {:.0} | {:.0} | {call:.2} |", t[2].least, t[3].least, t[6].least, t[5].least);
     };
