@@ -13,7 +13,7 @@ use stream::Place;
 use stream::Span;
 
 // The window holds the longest good record, 10,089 bytes, and more.
-const WINDOW: usize = 12288;
+const WINDOW: usize = 10240;
 
 const OUT: usize = 2048;
 

@@ -18,6 +18,8 @@ use Rattle.stream.specs.declared.Held.{Held}
 use Rattle.stream.specs.declared.Held.the-variants as H
 use Rattle.stream.specs.declared.Next.{Next}
 use Rattle.stream.specs.declared.Next.the-variants as N
+use Rattle.format.specs.Parse.{Parse, got, bad, numAt}
+use Rattle.cursor.proofs.Laws.{pair-got, pair-short}
 use Rattle.stream.specs.Window.{sizeOf, Reached, Longer, Holds, Stands, IsCut, Found}
 
 pub part-length : (xs : List ℕ) (a e : ℕ) → a ≤ e → e ≤ length xs → length (take (e - a) (drop a xs)) ≡ e - a
@@ -86,8 +88,16 @@ same-size xs ys e = rw (byte-at 2 (omega arith), byte-at 3 (omega arith))
     byte-at : (i : ℕ) → i < 4 → getD xs i 0 ≡ getD ys i 0
     byte-at i h = sym (getD-take 4 xs i 0 h) ∙ ap (λ (l : List ℕ). getD l i 0) e ∙ getD-take 4 ys i 0 h
 
-pub size-at : (w : List ℕ) (at r : ℕ) → r ≡ getD w (at + 2) 0 * 256 + getD w (at + 3) 0 → 4 + r ≡ sizeOf (drop at w)
-size-at w at r e = rw (getD-drop at w 2 0, getD-drop at w 3 0, e)
+module _ (w : List ℕ) (at : ℕ) {r : Parse ℕ} (is : r ≡ numAt 2 w (at + 2)) where
+  pub size-read : (v n : ℕ) → r ≡ got v n → 4 + v ≡ sizeOf (drop at w)
+  size-read v n e =
+      let p : v ≡ getD w (at + 2) 0 * 256 + getD w (at + 2 + 1) 0 = pair-got w (at + 2) v n (sym e ∙ is) .is in
+      let three : at + 2 + 1 ≡ at + 3 = omega arith in
+      let q : v ≡ getD w (at + 2) 0 * 256 + getD w (at + 3) 0 = rw three at p in
+      rw (getD-drop at w 2 0, getD-drop at w 3 0, q)
+
+  pub size-there : (k : ℕ) → r ≡ bad k → at + 4 ≤ length w → 4 ≡ sizeOf (drop at w)
+  size-there k e i = let h = pair-short w (at + 2) k (sym e ∙ is) in absurd (omega arith)
 
 pub short-stands : (w₀ w : List ℕ) (head s : Span) (size : ℕ) → Longer w₀ head w s → 4 ≤ head .to - head .from → size ≡ sizeOf (drop (head .from) w₀)
     → size ≤ length w → size ≤ s .to - s .from → Stands w₀ head w (record { from = s .from; to = s .from + size; end = s .to })

@@ -1,9 +1,10 @@
 // Standard input, record by record, through one window of bytes, and standard output: input of any length in bounded memory.
 ghost use mathlib.Core.Path.{_≡_};
 ghost use mathlib.Core.Bool.{true};
-ghost use Prim.Native.Nat.{_+_, _-_, _*_, _≤_, _<_};
+ghost use Prim.Native.Nat.{_+_, _-_, _≤_, _<_};
 ghost use lib.ListN.{length, take, drop};
 ghost use Rattle.stream.specs.Window.{sizeOf, Stay, Reached, Longer, Holds, Stands, IsCut, Found};
+use cursor::Num16;
 
 // "a body past the longest legal one is decided by its first bytes": one more than the longest has. Crate decoded shows, as
 // `first-bytes`, that they decide.
@@ -176,11 +177,15 @@ fn hold(window: &mut [u8], span: Span, want: usize) -> Held
     Held::Of(Span { from: 0, to: n })
 }
 
-fn pair(x: u8, y: u8) -> usize
-    ensures { λ r. ⌜ r ≡ x * 256 + y ⌝ }
-    ensures { λ r. ⌜ r < 65536 ⌝ }
+// How long the record is that stands at a place, by its length.
+fn size_at(window: &[u8], at: usize) -> usize
+    requires { ⌜ at + 4 ≤ length (now window) ⌝ }
+    ensures { λ r. ⌜ r ≡ sizeOf (drop at (now (window .entry))) ⌝ }
 {
-    (x as usize) * 256 + (y as usize)
+    match cursor::read_u16(window, at + 2) {
+        Num16::Of(n, _) => 4 + n as usize,
+        Num16::Short => 4,
+    }
 }
 
 // A record that the window cannot hold: the window is filled, the rest of the record stepped over.
@@ -269,7 +274,7 @@ fn first(window: &mut [u8], span: Span) -> Next
     if n < 4 {
         return Next::Cut;
     }
-    let size = 4 + pair(window[at + 2], window[at + 3]);
+    let size = size_at(window, at);
     if window.len() < size {
         return long(window, head, size);
     }
