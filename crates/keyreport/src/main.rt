@@ -89,14 +89,7 @@ fn cut(t: Tally, state: &mut [u8], used: &mut usize, out: &mut [u8], at: usize)
 
 // No further record: the input ended, inside a record or behind one, or a read failed. Then the lines so far are written, and no
 // last one.
-fn finish(
-    t: Tally,
-    state: &mut [u8],
-    used: &mut usize,
-    next: Next,
-    out: &mut [u8],
-    at: usize,
-)
+fn finish(t: Tally, state: &mut [u8], used: &mut usize, next: Next, out: &mut [u8], at: usize)
     requires { ⌜ at + 111 ≤ length (now out) ⌝ }
 {
     match next {

@@ -141,7 +141,14 @@ fn put_reached(buf: &mut [u8], at: usize, held: bool, sn: Number, behind: u8) ->
     put_detail(buf, at, sn, behind)
 }
 
-fn put_counts(buf: &mut [u8], at: usize, accepted: u64, offered: u64, held: bool, sn: Number) -> usize
+fn put_counts(
+    buf: &mut [u8],
+    at: usize,
+    accepted: u64,
+    offered: u64,
+    held: bool,
+    sn: Number,
+) -> usize
     requires { ⌜ Room (endLine accepted offered held sn) at (now buf) ⌝ }
     ensures { λ r. ⌜ Wrote (endLine accepted offered held sn) at (now (buf .entry)) r (now (buf .exit)) ⌝ }
 {
@@ -163,7 +170,14 @@ pub fn put_line(buf: &mut [u8], at: usize, ordinal: u64, mark: u16, x: Answer) -
 }
 
 // The last line, in the same way.
-pub fn put_end(buf: &mut [u8], at: usize, accepted: u64, offered: u64, held: bool, sn: Number) -> usize
+pub fn put_end(
+    buf: &mut [u8],
+    at: usize,
+    accepted: u64,
+    offered: u64,
+    held: bool,
+    sn: Number,
+) -> usize
     ensures { λ r. ⌜ r ≡ written (endLine accepted offered held sn) at (now (buf .entry)) .0 ⌝ }
     ensures { λ _. ⌜ now (buf .exit) ≡ written (endLine accepted offered held sn) at (now (buf .entry)) .1 ⌝ }
 {

@@ -54,10 +54,6 @@ abbrev pub refusalOfTail : T.TailScan → ℕ
 refusalOfTail (T.the-variants.Of m n) = 3
 refusalOfTail (T.the-variants.No k) = k
 
-abbrev pub refusalOfEvent : E.EventScan → ℕ
-refusalOfEvent (E.the-variants.Of m n) = 3
-refusalOfEvent (E.the-variants.No k) = k
-
 abbrev pub refusalOfState : S.StateScan → ℕ
 refusalOfState (S.the-variants.Of m n) = 3
 refusalOfState (S.the-variants.No k) = k

@@ -5,7 +5,7 @@ ghost use Rattle.layout.specs.Records.{inceptionAt, rotationAt, interactionAt, 
 ghost use Rattle.cursor.specs.Spans.{mapped};
 ghost use Rattle.evidence.specs.Evidence.{evidenceOf};
 ghost use Rattle.wire.specs.Wire.{sigersOf};
-ghost use Rattle.record.specs.Marks.{tailIs, eventIs, lastIs, stateIs, refusalOfSigers, refusalOfBody, refusalOfTail, refusalOfEvent, refusalOfState};
+ghost use Rattle.record.specs.Marks.{tailIs, eventIs, lastIs, stateIs, refusalOfSigers, refusalOfBody, refusalOfTail, refusalOfState};
 ghost use Rattle.record.specs.Marks.{tailPlaces, inceptionPlaces, rotationPlaces, interactionPlaces, lastPlaces, snapshotPlaces, stateOf, eventOf};
 use authority::Witnessing;
 use cursor::Num8;
@@ -94,15 +94,6 @@ fn refusal_of_tail(x: TailScan) -> u8
     match x {
         TailScan::Of(_, _) => 3,
         TailScan::No(k) => k,
-    }
-}
-
-pub fn refusal_of_event(x: EventScan) -> u8
-    ensures { λ r. ⌜ r ≡ refusalOfEvent x ⌝ }
-{
-    match x {
-        EventScan::Of(_, _) => 3,
-        EventScan::No(k) => k,
     }
 }
 

@@ -6,11 +6,8 @@ ghost use lib.ListN.{length, take, drop};
 ghost use Rattle.stream.specs.Window.{sizeOf, Stay, Reached, Longer, Holds, Stands, IsCut, Found};
 use cursor::Num16;
 
-// "a body past the longest legal one is decided by its first bytes": one more than the longest has. Crate decoded shows, as
-// `first-bytes`, that they decide.
-pub const DECIDING: usize = 10086;
-
-// A record's mark and length, and the bytes that decide.
+// A record's mark and length, and the bytes that decide: "a body past the longest legal one is decided by its first bytes", one
+// more than the longest has. Crate decoded shows, as `first-bytes`, that they decide.
 const KEPT: usize = 10090;
 
 // The bytes of the window that are read and not used.
