@@ -19,7 +19,7 @@ use Rattle.found.specs.Found.{keptIs}
 use Rattle.lines.specs.Lines.{line, endLine, reachedThen, written}
 use Rattle.report.specs.declared.Tally.{Tally}
 use Rattle.report.specs.declared.Told.{Told}
-use Rattle.report.specs.Report.{oneMore, counted, lineOf, told, endOf, lastLine}
+use Rattle.report.specs.Report.{oneMore, counted, lineOf, told, endWith, lastLine}
 
 pub more : (n : ℕ) → n < 0xFFFFFFFFFFFFFFFF → n + 1 ≡ oneMore n
 unfolding oneMore
@@ -53,11 +53,11 @@ noted t s mark x at out n p b e f g h =
     (as-told f (g ∙ ap (λ (m : ℕ). written (line m mark x) at out .0) e), h ∙ ap (λ (m : ℕ). written (line m mark x) at out .1) e)
 
 -- ---- How far the state is: no number is shown where none is held
-at-held : (t : Tally) (k : KeyState) → endOf t true (k .sn) ≡ lastLine t (holding k)
+at-held : (t : Tally) (k : KeyState) → endWith t true (k .sn) ≡ lastLine t (holding k)
 unfolding lastLine isHeld
 at-held t k = refl
 
-at-nothing : (t : Tally) (sn : Number) → endOf t false sn ≡ lastLine t nothing
+at-nothing : (t : Tally) (sn : Number) → endWith t false sn ≡ lastLine t nothing
 unfolding lastLine isHeld endLine reachedThen
 at-nothing t sn = refl
 
@@ -73,13 +73,13 @@ module _ (t : Tally) (buf : List ℕ) (used : ℕ) (x : H.Held) (is : keptIs (ta
   as-held y e = ap (λ (z : H.Held). lastLine t (keptIs (take used buf) z .holder)) (sym e) ∙ ap (λ (k : Kept). lastLine t (k .holder)) is
 
   module _ (at : ℕ) (out : List ℕ) {p : ℕ} {b : List ℕ} where
-    pub ended-at : (m : StateMarks) → x ≡ H.the-variants.Of m → Put (endOf t true (m .head .sn)) at out p b → Put (lastLine t (keptIn buf used .holder)) at out p b
+    pub ended-at : (m : StateMarks) → x ≡ H.the-variants.Of m → Put (endWith t true (m .head .sn)) at out p b → Put (lastLine t (keptIn buf used .holder)) at out p b
     ended-at m e w = as-line at out (at-held t (stateOf (drop 4 (take used buf)) m) ∙ as-held (H.the-variants.Of m) e) w
 
-    pub ended-nothing : x ≡ H.the-variants.Nothing → (n : Number) → Put (endOf t false n) at out p b → Put (lastLine t (keptIn buf used .holder)) at out p b
+    pub ended-nothing : x ≡ H.the-variants.Nothing → (n : Number) → Put (endWith t false n) at out p b → Put (lastLine t (keptIn buf used .holder)) at out p b
     ended-nothing e n w = as-line at out (at-nothing t n ∙ as-held H.the-variants.Nothing e) w
 
-    pub ended-bad : (k : ℕ) → x ≡ H.the-variants.No k → (n : Number) → Put (endOf t false n) at out p b → Put (lastLine t (keptIn buf used .holder)) at out p b
+    pub ended-bad : (k : ℕ) → x ≡ H.the-variants.No k → (n : Number) → Put (endWith t false n) at out p b → Put (lastLine t (keptIn buf used .holder)) at out p b
     ended-bad k e n w = as-line at out (at-nothing t n ∙ as-held (H.the-variants.No k) e) w
 
 -- ---- Bytes that are no record

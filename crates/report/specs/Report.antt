@@ -35,11 +35,11 @@ unfoldable pub told : Tally → ℕ → Answer → ℕ → List ℕ → Told × 
 told t mark x at out =
     (record { tally = counted t x; at = written (lineOf t mark x) at out .0 }, written (lineOf t mark x) at out .1)
 
-abbrev pub endOf : Tally → Bool → Number → List ℕ
-endOf t held sn = endLine (t .accepted) (t .offered) held sn
+abbrev pub endWith : Tally → Bool → Number → List ℕ
+endWith t held sn = endLine (t .accepted) (t .offered) held sn
 
 unfoldable pub lastLine : Tally → Holder → List ℕ
-lastLine t h = endOf t (isHeld h) (h .state .sn)
+lastLine t h = endWith t (isHeld h) (h .state .sn)
 
 -- bytes that are no record: "is 1 and ends the input"
 abbrev pub cutAnswer : Holder → Answer

@@ -2,7 +2,7 @@
 ghost use mathlib.Core.Path.{_≡_};
 ghost use Rattle.lines.specs.Lines.{written};
 ghost use Rattle.found.specs.Kept.{keptIn};
-ghost use Rattle.report.specs.Report.{oneMore, counted, told, endOf, lastLine, untold};
+ghost use Rattle.report.specs.Report.{oneMore, counted, told, endWith, lastLine, untold};
 use answer::Answer;
 use found::Held;
 use number::Number;
@@ -61,8 +61,8 @@ pub fn tell(t: Tally, mark: u16, x: Answer, out: &mut [u8], at: usize) -> Told
 }
 
 fn end_line(t: Tally, held: bool, sn: Number, out: &mut [u8], at: usize) -> usize
-    ensures { λ r. ⌜ r ≡ written (endOf t held sn) at (now (out .entry)) .0 ⌝ }
-    ensures { λ _. ⌜ now (out .exit) ≡ written (endOf t held sn) at (now (out .entry)) .1 ⌝ }
+    ensures { λ r. ⌜ r ≡ written (endWith t held sn) at (now (out .entry)) .0 ⌝ }
+    ensures { λ _. ⌜ now (out .exit) ≡ written (endWith t held sn) at (now (out .entry)) .1 ⌝ }
 {
     lines::put_end(out, at, t.accepted, t.offered, held, sn)
 }
