@@ -1,73 +1,64 @@
-// Direct calls: one request in compare's encoding (compare/oracle/encode.rs), one line.
-use crate::records;
-use crate::signed;
-use crate::sigs;
+// Direct calls: one request in compare's encoding (compare/oracle/encode.rs), one line. Its fields stand behind mark and length.
+use crate::read;
 use crate::text;
 use answer::Answer;
 use authority::Authority;
 use authority::Commitment;
 use authority::Witnessing;
 use cursor::Num8;
-use cursor::Num32;
-use cursor::Num64;
-use field::Place;
-use field::Span;
-use item::Item;
 use item::Kind;
 use items::Items;
 use state::Holder;
 use threshold::Threshold;
-use threshold_field::Marked;
 use toad::Taken;
-use wire::Span as Sigs;
 
-// A request that compare does not make.
-fn bad(out: &mut [u8], at: usize) -> usize {
-    text::put_all(out, at, b"bad\n")
+// What a call says: its answer, with a number behind it or not, or yes or no. A bad request is none that compare makes.
+enum Said {
+    Plain(Answer),
+    With(Answer, u32),
+    Yes(bool),
+    Bad,
 }
 
-fn put_answer(out: &mut [u8], at: usize, x: Answer) -> usize {
-    let p = text::put_answer(out, at, x);
-    text::put(out, p, b'\n')
-}
-
-fn put_yes(out: &mut [u8], at: usize, yes: bool) -> usize {
-    if yes {
-        return text::put_all(out, at, b"yes\n");
+// The answer to a request that was read to its end.
+fn told(s: &[u8], end: usize, x: Answer) -> Said {
+    if end == s.len() {
+        return Said::Plain(x);
     }
-    text::put_all(out, at, b"no\n")
+    Said::Bad
+}
+
+fn judged(s: &[u8], end: usize, yes: bool) -> Said {
+    if end == s.len() {
+        return Said::Yes(yes);
+    }
+    Said::Bad
 }
 
 // The answer, and the threshold where it is 0.
-fn put_toad(out: &mut [u8], at: usize, t: Taken) -> usize {
+fn taken(s: &[u8], end: usize, t: Taken) -> Said {
     let x = t.answer;
     let toad = t.toad;
     if x.number != 0 {
-        return put_answer(out, at, x);
+        return told(s, end, x);
     }
-    let p = text::put_answer(out, at, x);
-    let q = text::put(out, p, b' ');
-    let r = text::put_decimal(out, q, toad.0 as u64);
-    text::put(out, r, b'\n')
+    if end == s.len() {
+        return Said::With(x, toad.0);
+    }
+    Said::Bad
 }
 
-fn ample(s: &[u8], out: &mut [u8], at: usize) -> usize {
-    let Num64::Of(n, _) = cursor::read_u64(s, 4) else {
-        return bad(out, at);
-    };
-    let t = toad::ample(n);
-    put_toad(out, at, t)
+fn ample(s: &[u8]) -> Said {
+    let n = read::wide(s, 4);
+    let t = toad::ample(n.n);
+    taken(s, n.next, t)
 }
 
-fn exact(s: &[u8], out: &mut [u8], at: usize) -> usize {
-    let Num32::Of(toad, a) = cursor::read_u32(s, 4) else {
-        return bad(out, at);
-    };
-    let Num64::Of(n, _) = cursor::read_u64(s, a) else {
-        return bad(out, at);
-    };
-    let t = toad::exact(toad, n);
-    put_toad(out, at, t)
+fn exact(s: &[u8]) -> Said {
+    let w = read::word(s, 4);
+    let n = read::wide(s, w.next);
+    let t = toad::exact(w.n, n.n);
+    taken(s, n.next, t)
 }
 
 fn satisfied_by(sorted: bool, t: Threshold, ps: &[u32]) -> bool {
@@ -77,278 +68,221 @@ fn satisfied_by(sorted: bool, t: Threshold, ps: &[u32]) -> bool {
     satisfied::satisfied_by(t, ps)
 }
 
-fn satisfied(sorted: bool, s: &[u8], out: &mut [u8], at: usize) -> usize {
-    let Marked::Of(m, a) = threshold_field::scan(s, 4) else {
-        return bad(out, at);
-    };
-    let Num8::Of(count, b) = cursor::read_u8(s, a) else {
-        return bad(out, at);
+fn satisfied(sorted: bool, s: &[u8]) -> Said {
+    let q = read::threshold(s, 4);
+    let Num8::Of(count, at) = cursor::read_u8(s, q.next) else {
+        return Said::Bad;
     };
     let n = count as usize;
     if 64 < n {
-        return bad(out, at);
+        return Said::Bad;
     }
-    let t = threshold_field::copy(s, m);
-    let ps = signed::copy(s, b, n);
+    let t = q.threshold;
+    let ps = read::places(read::part(s, at, s.len()));
     let yes = satisfied_by(sorted, t, &ps[0..n]);
-    put_yes(out, at, yes)
+    Said::Yes(yes)
 }
 
-fn attainable(s: &[u8], out: &mut [u8], at: usize) -> usize {
-    let Marked::Of(m, a) = threshold_field::scan(s, 4) else {
-        return bad(out, at);
-    };
-    let Num64::Of(keys, _) = cursor::read_u64(s, a) else {
-        return bad(out, at);
-    };
-    let t = threshold_field::copy(s, m);
-    let x = attainable::attainable(t, keys as usize);
+fn attainable(s: &[u8]) -> Said {
+    let q = read::threshold(s, 4);
+    let keys = read::wide(s, q.next);
+    let t = q.threshold;
+    let x = attainable::attainable(t, keys.n as usize);
     if x.number != 0 {
         let y = answer::refuse(x.number, 0, 0);
-        return put_answer(out, at, y);
+        return told(s, keys.next, y);
     }
-    put_yes(out, at, x.yes)
+    judged(s, keys.next, x.yes)
 }
 
-fn well_formed(s: &[u8], out: &mut [u8], at: usize) -> usize {
-    let Marked::Of(m, a) = threshold_field::scan(s, 4) else {
-        return bad(out, at);
-    };
-    let Num64::Of(keys, _) = cursor::read_u64(s, a) else {
-        return bad(out, at);
-    };
-    let t = threshold_field::copy(s, m);
-    let x = threshold::check_well_formed(t, keys as usize);
-    put_answer(out, at, x)
+fn well_formed(s: &[u8]) -> Said {
+    let q = read::threshold(s, 4);
+    let keys = read::wide(s, q.next);
+    let t = q.threshold;
+    let x = threshold::check_well_formed(t, keys.n as usize);
+    told(s, keys.next, x)
 }
 
-fn witnesses(s: &[u8], out: &mut [u8], at: usize) -> usize {
-    let Span::Of(n, first, _) = field::scan_items(s, 4, Kind::Key) else {
-        return bad(out, at);
-    };
-    let l = field::copy_items(s, n, first);
+fn witnesses(s: &[u8]) -> Said {
+    let q = read::list(s, 4, Kind::Key);
+    let l = q.items;
     let x = member_set::check_witnesses(l, 1);
-    put_answer(out, at, x)
+    told(s, q.next, x)
 }
 
 // Cuts and additions alone: with the cuts themselves as the current members neither 21 nor 22 can come.
-fn deltas(s: &[u8], out: &mut [u8], at: usize) -> usize {
-    let Span::Of(m, cut, a) = field::scan_items(s, 4, Kind::Key) else {
-        return bad(out, at);
-    };
-    let Span::Of(n, add, _) = field::scan_items(s, a, Kind::Key) else {
-        return bad(out, at);
-    };
-    let cuts = field::copy_items(s, m, cut);
-    let adds = field::copy_items(s, n, add);
+fn deltas(s: &[u8]) -> Said {
+    let p = read::list(s, 4, Kind::Key);
+    let q = read::list(s, p.next, Kind::Key);
+    let cuts = p.items;
+    let adds = q.items;
     let x = member_set::check_change(cuts, cuts, adds);
-    put_answer(out, at, x)
+    told(s, q.next, x)
+}
+
+fn identity(s: &[u8]) -> Said {
+    let prefix = field::copy_item(s, 4);
+    let q = read::quorum(s, 37, Kind::Key);
+    let next = read::list(s, q.next, Kind::Said);
+    let witnesses = read::list(s, next.next, Kind::Key);
+    let anchors = read::word(s, witnesses.next);
+    let keys = q.items;
+    let t = q.threshold;
+    let digests = next.items;
+    let members = witnesses.items;
+    let x = inception::check_identity(prefix, keys, t, digests.count, members.count, anchors.n);
+    told(s, anchors.next, x)
+}
+
+fn signatures(s: &[u8]) -> Said {
+    let q = read::quorum(s, 4, Kind::Key);
+    let w = read::sigers(s, q.next);
+    let keys = q.items;
+    let threshold = q.threshold;
+    let own = Authority { keys, threshold };
+    let l = w.sigs;
+    let x = authority::verify(own, l);
+    told(s, w.next, x)
+}
+
+fn opening(s: &[u8]) -> Said {
+    let p = read::quorum(s, 4, Kind::Said);
+    let q = read::quorum(s, p.next, Kind::Key);
+    let w = read::sigers(s, q.next);
+    let next = p.items;
+    let bar = p.threshold;
+    let old = Commitment {
+        next,
+        threshold: bar,
+    };
+    let keys = q.items;
+    let threshold = q.threshold;
+    let own = Authority { keys, threshold };
+    let l = w.sigs;
+    let x = authority::verify_opening(old, own, l);
+    told(s, w.next, x)
+}
+
+fn receipts(s: &[u8]) -> Said {
+    let toad = read::word(s, 4);
+    let q = read::list(s, toad.next, Kind::Key);
+    let p = read::sigers(s, q.next);
+    let witnesses = q.items;
+    let w = Witnessing {
+        witnesses,
+        toad: toad.n,
+    };
+    let l = p.sigs;
+    let x = authority::receipted_by(w, l);
+    told(s, p.next, x)
+}
+
+fn put_yes(out: &mut [u8], at: usize, yes: bool) -> usize {
+    if yes {
+        return text::put_all(out, at, b"yes\n");
+    }
+    text::put_all(out, at, b"no\n")
+}
+
+fn put_with(out: &mut [u8], at: usize, x: Answer, n: u32) -> usize {
+    let p = text::put_answer(out, at, x, b' ');
+    text::put_decimal(out, p, n as u64, b'\n')
+}
+
+fn put_said(out: &mut [u8], at: usize, x: Said) -> usize {
+    match x {
+        Said::Plain(y) => text::put_answer(out, at, y, b'\n'),
+        Said::With(y, n) => put_with(out, at, y, n),
+        Said::Yes(yes) => put_yes(out, at, yes),
+        Said::Bad => text::put_all(out, at, b"bad\n"),
+    }
 }
 
 fn put_members(out: &mut [u8], at: usize, x: Answer, l: Items) -> usize {
     if x.number != 0 {
-        return put_answer(out, at, x);
+        return text::put_answer(out, at, x, b'\n');
     }
-    let p = text::put_answer(out, at, x);
-    let q = text::put(out, p, b' ');
-    let r = text::put_items(out, q, l);
-    text::put(out, r, b'\n')
+    let p = text::put_answer(out, at, x, b' ');
+    text::put_items(out, p, l)
 }
 
 fn members(s: &[u8], out: &mut [u8], at: usize) -> usize {
-    let Span::Of(l, now, a) = field::scan_items(s, 4, Kind::Key) else {
-        return bad(out, at);
-    };
-    let Span::Of(m, cut, b) = field::scan_items(s, a, Kind::Key) else {
-        return bad(out, at);
-    };
-    let Span::Of(n, add, _) = field::scan_items(s, b, Kind::Key) else {
-        return bad(out, at);
-    };
-    let current = field::copy_items(s, l, now);
-    let cuts = field::copy_items(s, m, cut);
-    let adds = field::copy_items(s, n, add);
+    let p = read::list(s, 4, Kind::Key);
+    let q = read::list(s, p.next, Kind::Key);
+    let r = read::list(s, q.next, Kind::Key);
+    let current = p.items;
+    let cuts = q.items;
+    let adds = r.items;
     let c = member_set::update(current, cuts, adds);
     let x = c.answer;
     let list = c.list;
     put_members(out, at, x, list)
 }
 
-// Prefix, keys and threshold are read; the rest follows from `next` on.
-fn identity_of(
-    s: &[u8],
-    out: &mut [u8],
-    at: usize,
-    next: usize,
-    prefix: Item,
-    own: Authority,
-) -> usize {
-    let Span::Of(m, _, a) = field::scan_items(s, next, Kind::Said) else {
-        return bad(out, at);
-    };
-    let Span::Of(n, _, b) = field::scan_items(s, a, Kind::Key) else {
-        return bad(out, at);
-    };
-    let Num32::Of(anchors, _) = cursor::read_u32(s, b) else {
-        return bad(out, at);
-    };
-    let keys = own.keys;
-    let t = own.threshold;
-    let x = inception::check_identity(prefix, keys, t, m, n, anchors);
-    put_answer(out, at, x)
+// A room, and the bytes of a state, which are saved into so many bytes.
+fn saved(s: &[u8], buf: &mut [u8]) -> Answer {
+    let w = read::word(s, 4);
+    let room = w.n as usize;
+    if buf.len() < room {
+        return answer::refuse(1, 0, 0);
+    }
+    let h = restored(s, w.next);
+    snapshot::save(h, &mut buf[0..room])
 }
 
-fn identity(s: &[u8], out: &mut [u8], at: usize) -> usize {
-    let Place::At(p, a) = field::scan_item(s, 4, Kind::Prefix) else {
-        return bad(out, at);
-    };
-    let Span::Of(n, first, b) = field::scan_items(s, a, Kind::Key) else {
-        return bad(out, at);
-    };
-    let Marked::Of(m, next) = threshold_field::scan(s, b) else {
-        return bad(out, at);
-    };
-    let prefix = field::copy_item(s, p);
-    let keys = field::copy_items(s, n, first);
-    let threshold = threshold_field::copy(s, m);
-    let own = Authority { keys, threshold };
-    identity_of(s, out, at, next, prefix, own)
-}
-
-fn signatures(s: &[u8], out: &mut [u8], at: usize) -> usize {
-    let Span::Of(n, first, a) = field::scan_items(s, 4, Kind::Key) else {
-        return bad(out, at);
-    };
-    let Marked::Of(m, b) = threshold_field::scan(s, a) else {
-        return bad(out, at);
-    };
-    let Sigs::Of(k, start, _) = wire::scan(s, b) else {
-        return bad(out, at);
-    };
-    let keys = field::copy_items(s, n, first);
-    let threshold = threshold_field::copy(s, m);
-    let own = Authority { keys, threshold };
-    let l = sigs::copy(s, k, start);
-    let x = authority::verify(own, l);
-    put_answer(out, at, x)
-}
-
-// The commitment is read; the authority that opens it follows from `next` on.
-fn opening_of(s: &[u8], out: &mut [u8], at: usize, next: usize, old: Commitment) -> usize {
-    let Span::Of(n, first, a) = field::scan_items(s, next, Kind::Key) else {
-        return bad(out, at);
-    };
-    let Marked::Of(m, b) = threshold_field::scan(s, a) else {
-        return bad(out, at);
-    };
-    let Sigs::Of(k, start, _) = wire::scan(s, b) else {
-        return bad(out, at);
-    };
-    let keys = field::copy_items(s, n, first);
-    let threshold = threshold_field::copy(s, m);
-    let own = Authority { keys, threshold };
-    let l = sigs::copy(s, k, start);
-    let x = authority::verify_opening(old, own, l);
-    put_answer(out, at, x)
-}
-
-fn opening(s: &[u8], out: &mut [u8], at: usize) -> usize {
-    let Span::Of(n, first, a) = field::scan_items(s, 4, Kind::Said) else {
-        return bad(out, at);
-    };
-    let Marked::Of(m, b) = threshold_field::scan(s, a) else {
-        return bad(out, at);
-    };
-    let next = field::copy_items(s, n, first);
-    let threshold = threshold_field::copy(s, m);
-    let old = Commitment { next, threshold };
-    opening_of(s, out, at, b, old)
-}
-
-fn receipts(s: &[u8], out: &mut [u8], at: usize) -> usize {
-    let Num32::Of(toad, a) = cursor::read_u32(s, 4) else {
-        return bad(out, at);
-    };
-    let Span::Of(n, first, b) = field::scan_items(s, a, Kind::Key) else {
-        return bad(out, at);
-    };
-    let Sigs::Of(k, start, _) = wire::scan(s, b) else {
-        return bad(out, at);
-    };
-    let witnesses = field::copy_items(s, n, first);
-    let w = Witnessing { witnesses, toad };
-    let l = sigs::copy(s, k, start);
-    let x = authority::receipted_by(w, l);
-    put_answer(out, at, x)
+// No bytes are an empty holder, as bytes that are no state are.
+fn restored(s: &[u8], at: usize) -> Holder {
+    let r = restore::restore(read::part(s, at, s.len()));
+    r.holder
 }
 
 // The answer to a saving, and the bytes that it says are written.
 fn put_saved(out: &mut [u8], at: usize, x: Answer, buf: &[u8]) -> usize {
-    let size = x.a;
-    let n = size.low as usize;
     if x.number != 0 {
-        return put_answer(out, at, x);
+        return text::put_answer(out, at, x, b'\n');
     }
-    if buf.len() < n {
-        return bad(out, at);
-    }
-    let p = text::put_answer(out, at, x);
-    let q = text::put(out, p, b' ');
-    let r = text::put_hex(out, q, &buf[0..n]);
-    text::put(out, r, b'\n')
+    let size = x.a;
+    let p = text::put_answer(out, at, x, b' ');
+    let q = text::put_hex(out, p, read::part(buf, 0, size.low as usize), false);
+    text::put(out, q, b'\n')
 }
 
-// Saves into so many bytes of a buffer.
-fn save_in(h: Holder, room: usize, buf: &mut [u8], out: &mut [u8], at: usize) -> usize {
-    if buf.len() < room {
-        return bad(out, at);
-    }
-    let x = snapshot::save(h, &mut buf[0..room]);
-    put_saved(out, at, x, buf)
-}
-
-// A room and a KS record, or nothing for an empty holder.
 fn save(s: &[u8], out: &mut [u8], at: usize) -> usize {
-    let Num32::Of(room, a) = cursor::read_u32(s, 4) else {
-        return bad(out, at);
-    };
     let mut buf = [0u8; 4096];
-    let nobody = empty::nothing();
-    if s.len() <= a {
-        return save_in(nobody, room as usize, &mut buf, out, at);
-    }
-    let r = receive::receive(nobody, &s[a..]);
-    let x = r.offered;
-    let h = x.holder;
-    save_in(h, room as usize, &mut buf, out, at)
+    let x = saved(s, &mut buf);
+    put_saved(out, at, x, &buf)
 }
 
-fn of_signers(mark: u16, s: &[u8], out: &mut [u8], at: usize) -> usize {
+fn reply(mark: u16, s: &[u8]) -> Said {
     match mark {
-        // ID, SI, OP, RE, SA
-        0x4944 => identity(s, out, at),
-        0x5349 => signatures(s, out, at),
-        0x4F50 => opening(s, out, at),
-        0x5245 => receipts(s, out, at),
-        0x5341 => save(s, out, at),
-        _ => bad(out, at),
+        // AM, EX, SO, AN, AT, WF
+        0x414D => ample(s),
+        0x4558 => exact(s),
+        0x534F => satisfied(true, s),
+        0x414E => satisfied(false, s),
+        0x4154 => attainable(s),
+        0x5746 => well_formed(s),
+        // WI, DE, ID, SI, OP, RE
+        0x5749 => witnesses(s),
+        0x4445 => deltas(s),
+        0x4944 => identity(s),
+        0x5349 => signatures(s),
+        0x4F50 => opening(s),
+        0x5245 => receipts(s),
+        _ => Said::Bad,
     }
 }
 
 // s is the whole request, its mark and length included.
 pub(crate) fn answer(s: &[u8], out: &mut [u8], at: usize) -> usize {
-    let mark = records::mark_of(s);
+    let mark = read::mark(s);
     match mark {
-        // AM, EX, SO, AN, AT, WF, WI, DE, ME
-        0x414D => ample(s, out, at),
-        0x4558 => exact(s, out, at),
-        0x534F => satisfied(true, s, out, at),
-        0x414E => satisfied(false, s, out, at),
-        0x4154 => attainable(s, out, at),
-        0x5746 => well_formed(s, out, at),
-        0x5749 => witnesses(s, out, at),
-        0x4445 => deltas(s, out, at),
+        // ME, SA
         0x4D45 => members(s, out, at),
-        _ => of_signers(mark, s, out, at),
+        0x5341 => save(s, out, at),
+        _ => {
+            let x = reply(mark, s);
+            put_said(out, at, x)
+        }
     }
 }

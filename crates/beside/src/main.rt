@@ -4,9 +4,8 @@
 //     beside --calls                direct calls, as compare encodes them
 //     beside --mixed                one input for all of these: a record with mark 0 says how the following ones are meant
 mod calls;
+mod read;
 mod records;
-mod signed;
-mod sigs;
 mod text;
 mod window;
 

@@ -1,9 +1,9 @@
-// Records: offered to the held state, or folded, with compare's lines for each.
+// Records: offered to the held state, or folded, with compare's lines for each. The state stays the bytes that it is saved as.
 use crate::calls;
+use crate::read;
 use crate::text;
 use answer::Answer;
-use ingest::Offered;
-use state::Holder;
+use report::Tally;
 
 pub struct Mode {
     pub states: bool,
@@ -12,208 +12,149 @@ pub struct Mode {
     pub mixed: bool,
 }
 
-// What is kept from record to record. `used` of the output buffer is written.
+// What goes from record to record: how many bytes of the state's buffer the state has, and how many of the output's are written.
 pub struct Run {
     pub mode: Mode,
-    pub offered: u64,
-    pub accepted: u64,
-    pub holder: Holder,
+    pub tally: Tally,
+    pub kept: usize,
     pub used: usize,
 }
 
 pub(crate) fn begin(mode: Mode, used: usize) -> Run {
-    let holder = empty::nothing();
+    let tally = report::begin();
     Run {
         mode,
-        offered: 0,
-        accepted: 0,
-        holder,
+        tally,
+        kept: 0,
         used,
     }
 }
 
-pub(crate) fn wrote(run: Run, used: usize) -> Run {
-    let mode = run.mode;
-    let holder = run.holder;
-    Run {
-        mode,
-        offered: run.offered,
-        accepted: run.accepted,
-        holder,
-        used,
-    }
+pub(crate) fn wrote(mut run: Run, used: usize) -> Run {
+    run.used = used;
+    run
 }
 
-pub(crate) fn mark_of(s: &[u8]) -> u16 {
-    if s.len() < 2 {
-        return 0;
-    }
-    pair(s[0], s[1])
+fn offer(state: &mut [u8], kept: &mut usize, mark: u16, body: &[u8]) -> Answer {
+    in_place::offer_body(state, kept, mark, body)
 }
 
-fn pair(x: u8, y: u8) -> u16 {
-    (x as u16) * 256 + (y as u16)
-}
-
-// "a KS in a fold stream starts a new run with the state it brings, whatever was held" (compare/README.md)
-fn start_with(before: Holder, body: &[u8]) -> Offered {
-    let nothing = empty::nothing();
-    let x = receive::of_body(nothing, 0x4B53, body);
-    let answer = x.answer;
-    if answer.number != 0 {
-        return Offered {
-            answer,
-            holder: before,
-        };
+// "a KS in a fold stream starts a new run with the state it brings, whatever was held" (compare/README.md). Where it is refused,
+// no byte of the old one is touched.
+fn start_with(state: &mut [u8], kept: &mut usize, body: &[u8]) -> Answer {
+    let before = *kept;
+    *kept = 0;
+    let x = offer(state, kept, 0x4B53, body);
+    if x.number != 0 {
+        *kept = before;
     }
     x
 }
 
-fn fold(before: Holder, mark: u16, body: &[u8]) -> Offered {
+fn fold(state: &mut [u8], kept: &mut usize, mark: u16, body: &[u8]) -> Answer {
     if mark == 0x4B53 {
-        return start_with(before, body);
+        return start_with(state, kept, body);
     }
-    fold_record::of_body(before, mark, body)
+    in_place::fold_body(state, kept, mark, body)
 }
 
-fn offer(before: Holder, folds: bool, mark: u16, body: &[u8]) -> Offered {
+fn judge(folds: bool, state: &mut [u8], kept: &mut usize, mark: u16, body: &[u8]) -> Answer {
     if folds {
-        return fold(before, mark, body);
+        return fold(state, kept, mark, body);
     }
-    receive::of_body(before, mark, body)
+    offer(state, kept, mark, body)
 }
 
-// The held state: hex of its KS record, or -.
-fn put_state(out: &mut [u8], at: usize, h: Holder) -> usize {
-    let mut buf = [0u8; 2285];
-    let x = snapshot::save(h, &mut buf);
-    let size = x.a;
-    let n = size.low as usize;
-    if x.number != 0 {
-        return text::put_all(out, at, b"-\n");
-    }
-    if 2285 < n {
+// The held state, where it is asked for: hex of its KS record, or -.
+fn put_state(out: &mut [u8], at: usize, asked: bool, state: &[u8], kept: usize) -> usize {
+    if !asked {
         return at;
     }
-    let p = text::put_hex(out, at, &buf[0..n]);
+    if kept == 0 {
+        return text::put_all(out, at, b"-\n");
+    }
+    let p = text::put_hex(out, at, read::part(state, 0, kept), false);
     text::put(out, p, b'\n')
 }
 
-fn next(n: u64) -> u64 {
-    if n < u64::MAX {
-        return n + 1;
-    }
-    n
-}
-
-fn taken(n: u64, x: Answer) -> u64 {
-    if x.number != 0 {
-        return n;
-    }
-    next(n)
-}
-
 // The lines for an answer.
-fn told(run: Run, mark: u16, x: Offered, out: &mut [u8]) -> Run {
+fn tell(run: Run, mark: u16, x: Answer, state: &[u8], out: &mut [u8]) -> Run {
     let mode = run.mode;
-    let answer = x.answer;
-    let holder = x.holder;
-    let offered = next(run.offered);
-    let accepted = taken(run.accepted, answer);
-    let p = lines::put_line(out, run.used, offered, mark, answer);
-    let used = shown(mode.states, holder, out, p);
+    let before = run.tally;
+    let told = report::tell(before, mark, x, out, run.used);
+    let tally = told.tally;
+    let used = put_state(out, told.at, mode.states, state, run.kept);
     Run {
         mode,
-        offered,
-        accepted,
-        holder,
+        tally,
+        kept: run.kept,
         used,
     }
 }
 
-fn shown(states: bool, h: Holder, out: &mut [u8], at: usize) -> usize {
-    if states {
-        return put_state(out, at, h);
-    }
-    at
-}
-
 // s is the record with its mark and length; of a long body the first bytes that decide.
-fn record(run: Run, s: &[u8], out: &mut [u8]) -> Run {
-    if s.len() < 4 {
-        return cut(run, out);
-    }
+fn record(mut run: Run, s: &[u8], state: &mut [u8], out: &mut [u8]) -> Run {
     let mode = run.mode;
-    let before = run.holder;
-    let mark = mark_of(s);
-    let x = offer(before, mode.fold, mark, &s[4..]);
-    told(run, mark, x, out)
+    let mark = read::mark(s);
+    let x = judge(
+        mode.fold,
+        state,
+        &mut run.kept,
+        mark,
+        read::part(s, 4, s.len()),
+    );
+    tell(run, mark, x, state, out)
 }
 
 // "Fewer than 4 bytes left .., or a body past the end, is 1 and ends the input"
-pub(crate) fn cut(run: Run, out: &mut [u8]) -> Run {
-    let mode = run.mode;
-    let direct = mode.calls;
-    if direct {
+pub(crate) fn cut(run: Run, state: &[u8], out: &mut [u8]) -> Run {
+    if run.mode.calls {
         let used = text::put_all(out, run.used, b"bad\n");
         return wrote(run, used);
     }
-    let answer = answer::refuse(1, 0, 0);
-    let holder = run.holder;
-    let x = Offered { answer, holder };
-    told(run, 0, x, out)
+    let x = answer::refuse(1, 0, 0);
+    tell(run, 0, x, state, out)
 }
 
 // The last line; a run of calls has none.
-pub(crate) fn finish(run: Run, out: &mut [u8]) -> Run {
-    let mode = run.mode;
-    let direct = mode.calls;
-    if direct {
+pub(crate) fn finish(run: Run, state: &[u8], out: &mut [u8]) -> Run {
+    if run.mode.calls {
         return run;
     }
-    let h = run.holder;
-    let used = lines::put_end(out, run.used, run.accepted, run.offered, h);
+    let tally = run.tally;
+    let used = report::tell_end(tally, state, run.kept, out, run.used);
     wrote(run, used)
 }
 
+// One of two letters.
 fn has(s: &[u8], letter: u8) -> bool {
-    let mut i: usize = 0;
-    while i < s.len() {
-        if s[i] == letter {
-            return true;
-        }
-        i += 1;
+    if read::byte(s, 4) == letter {
+        return true;
     }
-    false
+    read::byte(s, 5) == letter
 }
 
 // A record with mark 0 in a mixed input: the letters of its body are the flags for what follows, with an empty holder.
-fn again(run: Run, s: &[u8], out: &mut [u8]) -> Run {
-    let done = finish(run, out);
-    let states = has(s, b's');
-    let fold = has(s, b'f');
-    let calls = has(s, b'c');
+fn again(run: Run, s: &[u8], state: &[u8], out: &mut [u8]) -> Run {
+    let done = finish(run, state, out);
     let mode = Mode {
-        states,
-        fold,
-        calls,
+        states: has(s, b's'),
+        fold: has(s, b'f'),
+        calls: has(s, b'c'),
         mixed: true,
     };
     begin(mode, done.used)
 }
 
-pub(crate) fn one(run: Run, s: &[u8], out: &mut [u8]) -> Run {
-    let mode = run.mode;
-    let mixed = mode.mixed;
-    if mixed {
-        if mark_of(s) == 0 {
-            return again(run, s, out);
+pub(crate) fn one(run: Run, s: &[u8], state: &mut [u8], out: &mut [u8]) -> Run {
+    if run.mode.mixed {
+        if read::mark(s) == 0 {
+            return again(run, s, state, out);
         }
     }
-    let direct = mode.calls;
-    if direct {
+    if run.mode.calls {
         let used = calls::answer(s, out, run.used);
         return wrote(run, used);
     }
-    record(run, s, out)
+    record(run, s, state, out)
 }

@@ -22,35 +22,8 @@ pub(crate) fn put_all(out: &mut [u8], at: usize, src: &[u8]) -> usize {
     p
 }
 
-fn digit(d: u8) -> u8 {
-    if d < 10 {
-        return 0x30 + d;
-    }
-    if d < 16 {
-        return 0x57 + d;
-    }
-    b'?'
-}
-
-fn put_byte(out: &mut [u8], at: usize, b: u8) -> usize {
-    let p = put(out, at, digit(b / 16));
-    put(out, p, digit(b % 16))
-}
-
-pub(crate) fn put_hex(out: &mut [u8], at: usize, src: &[u8]) -> usize {
-    let mut p = at;
-    let mut i: usize = 0;
-    while i < src.len() {
-        p = put_byte(out, p, src[i]);
-        i += 1;
-    }
-    p
-}
-
-pub(crate) fn put_decimal(out: &mut [u8], at: usize, n: u64) -> usize {
-    let mut digits = [0u8; 20];
-    let k = io::decimal(n, &mut digits);
-    put_all(out, at, &digits[..k])
+fn wide(n: u8) -> u64 {
+    n as u64
 }
 
 fn put_word(out: &mut [u8], at: usize, n: u64, width: usize) -> usize {
@@ -59,7 +32,46 @@ fn put_word(out: &mut [u8], at: usize, n: u64, width: usize) -> usize {
     put_all(out, at, &digits[..k])
 }
 
-pub(crate) fn put_detail(out: &mut [u8], at: usize, n: Number) -> usize {
+fn is_bare(bare: bool, b: u8) -> bool {
+    if bare {
+        return b == 0;
+    }
+    false
+}
+
+// Two digits; where `bare`, without leading zeros.
+fn put_byte(out: &mut [u8], at: usize, bare: bool, b: u8) -> usize {
+    if !bare {
+        return put_word(out, at, wide(b), 2);
+    }
+    if b == 0 {
+        return at;
+    }
+    put_word(out, at, wide(b), 1)
+}
+
+// Bytes in hex; where `short`, without leading zeros.
+pub(crate) fn put_hex(out: &mut [u8], at: usize, src: &[u8], short: bool) -> usize {
+    let mut p = at;
+    let mut bare = short;
+    let mut i: usize = 0;
+    while i < src.len() {
+        let b = src[i];
+        p = put_byte(out, p, bare, b);
+        bare = is_bare(bare, b);
+        i += 1;
+    }
+    p
+}
+
+pub(crate) fn put_decimal(out: &mut [u8], at: usize, n: u64, behind: u8) -> usize {
+    let mut digits = [0u8; 20];
+    let k = io::decimal(n, &mut digits);
+    let p = put_all(out, at, &digits[..k]);
+    put(out, p, behind)
+}
+
+fn put_words(out: &mut [u8], at: usize, n: Number) -> usize {
     if n.high == 0 {
         return put_word(out, at, n.low, 1);
     }
@@ -67,78 +79,36 @@ pub(crate) fn put_detail(out: &mut [u8], at: usize, n: Number) -> usize {
     put_word(out, p, n.low, 16)
 }
 
-// Number, a and b as keyreport writes them, without a line feed.
-pub(crate) fn put_answer(out: &mut [u8], at: usize, x: Answer) -> usize {
+fn put_detail(out: &mut [u8], at: usize, n: Number, behind: u8) -> usize {
+    let p = put_words(out, at, n);
+    put(out, p, behind)
+}
+
+// Number, a and b as keyreport writes them.
+pub(crate) fn put_answer(out: &mut [u8], at: usize, x: Answer, behind: u8) -> usize {
     let a = x.a;
     let b = x.b;
-    let p = put_decimal(out, at, wide(x.number));
-    let q = put(out, p, b' ');
-    let r = put_detail(out, q, a);
-    let s = put(out, r, b' ');
-    put_detail(out, s, b)
-}
-
-pub(crate) fn wide(n: u8) -> u64 {
-    n as u64
-}
-
-fn is_shown(seen: bool, d: u8) -> bool {
-    if seen {
-        return true;
-    }
-    d != 0
-}
-
-fn put_half(out: &mut [u8], at: usize, shown: bool, d: u8) -> usize {
-    if shown {
-        return put(out, at, digit(d));
-    }
-    at
+    let p = put_decimal(out, at, wide(x.number), b' ');
+    let q = put_detail(out, p, a, b' ');
+    put_detail(out, q, b, behind)
 }
 
 // A code letter and the hex digits of the rest, without leading zeros.
-fn put_item(out: &mut [u8], at: usize, x: Item) -> usize {
+fn put_item(out: &mut [u8], at: usize, x: Item, behind: u8) -> usize {
     let raw = x.raw;
-    let mut p = put(out, at, x.code);
-    let mut seen = false;
-    let mut i: usize = 0;
-    while i < 64 {
-        let d = half(&raw, i);
-        seen = is_shown(seen, d);
-        p = put_half(out, p, seen, d);
-        i += 1;
-    }
-    p
+    let p = put(out, at, x.code);
+    let q = put_hex(out, p, &raw, true);
+    put(out, q, behind)
 }
 
-// The ith half of a byte.
-fn half(raw: &[u8; 32], i: usize) -> u8 {
-    let k = i / 2;
-    if k < 32 {
-        if i % 2 == 0 {
-            return raw[k] / 16;
-        }
-        return raw[k] % 16;
+fn after(i: usize, n: usize) -> u8 {
+    if i < n {
+        return b',';
     }
-    0
+    b'\n'
 }
 
-// With a comma before it, but for the first.
-fn put_next(out: &mut [u8], at: usize, i: usize, x: Item) -> usize {
-    if i == 0 {
-        return put_item(out, at, x);
-    }
-    let p = put(out, at, b',');
-    put_item(out, p, x)
-}
-
-// Items with commas between, or - for none.
-pub(crate) fn put_items(out: &mut [u8], at: usize, l: Items) -> usize {
-    let n = l.count;
-    let items = l.at;
-    if n == 0 {
-        return put(out, at, b'-');
-    }
+fn put_each(out: &mut [u8], at: usize, items: [Item; 16], n: usize) -> usize {
     let mut p = at;
     let mut i: usize = 0;
     while i < 16 {
@@ -146,8 +116,17 @@ pub(crate) fn put_items(out: &mut [u8], at: usize, l: Items) -> usize {
             return p;
         }
         let x = items[i];
-        p = put_next(out, p, i, x);
         i += 1;
+        p = put_item(out, p, x, after(i, n));
     }
     p
+}
+
+// A line of items with commas between, or - for none.
+pub(crate) fn put_items(out: &mut [u8], at: usize, l: Items) -> usize {
+    let items = l.at;
+    if l.count == 0 {
+        return put_all(out, at, b"-\n");
+    }
+    put_each(out, at, items, l.count)
 }
