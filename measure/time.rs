@@ -2,22 +2,23 @@
 //!
 //! Read: a record's bytes to what is judged (ours: its marks; the Rust: its event and its signatures). Judge: that to the answer
 //! (ours: a rotation's new list too; the Rust: the next state too). Device: keystate_offer, which reads the state's bytes and the
-//! record's, judges, and writes the next state's bytes; beside it the Rust's reading and judging. By value: our one-record call on
-//! a state in memory, which keyreport makes. Each round runs each of them in turn, so that a busy machine hits all alike.
+//! record's, judges, and writes the next state's bytes; beside it the Rust's reading, judging and making of a next state that it
+//! owns. Each round runs each of them in turn, so that a busy machine hits all alike.
 use std::hint::black_box;
 use std::time::Instant;
 
 use keri::{KeyState, KeyStateSnapshot, Signed};
+use keri_events::KeriEvent;
 use oracle_lib::record::{Record, Signature};
-use oracle_lib::{reader, rust, writer};
+use oracle_lib::{rust, writer};
 
+mod lent;
 mod records;
 use records::*;
 
 unsafe extern "C" {
     fn timing_read(mark: u16, body: *const u8, len: usize, rounds: u64) -> u64;
     fn timing_judge(state: *const u8, used: usize, mark: u16, body: *const u8, len: usize, rounds: u64) -> u64;
-    fn timing_both(state: *const u8, used: usize, input: *const u8, len: usize, rounds: u64) -> u64;
     fn keystate_offer(state: *mut u8, capacity: usize, used: *mut usize, input: *const u8, len: usize, details: *mut [u64; 4]) -> u8;
 }
 
@@ -44,15 +45,23 @@ fn judge<'e>(held: Option<&'e KeyStateSnapshot>, signed: &Signed<'e>) {
     }
 }
 
-fn read(bytes: &[u8], held: Option<Option<&KeyStateSnapshot>>) {
-    let reader::Head::Whole { mark, body, .. } = reader::head(black_box(bytes)) else { panic!("a whole record") };
-    let record = reader::body(mark, body).expect("a good record");
-    let event = rust::event(&record);
-    let (s, r) = signed_parts(&record);
-    let signed = Signed::from_host_asserted_parts(&event, b"", rust::sigers(s), rust::sigers(r));
-    match held {
-        None => drop(black_box(signed)),
-        Some(held) => judge(held, &signed),
+fn read(bytes: &[u8]) -> lent::Lent<'_> {
+    let bytes = black_box(bytes);
+    lent::read([bytes[0], bytes[1]], &bytes[4..]).expect("a good record")
+}
+
+/// All of it: read, judged, and a next state that outlives the record's bytes. An interaction takes the held state with it, so it
+/// gets a copy, whose time is taken off again.
+fn whole(bytes: &[u8], held: Option<&KeyStateSnapshot>) -> KeyStateSnapshot {
+    let lent::Lent { event, signatures, receipts } = read(bytes);
+    let signed = Signed::from_host_asserted_parts(&event, b"", signatures, receipts);
+    let judged = match held.map(KeyStateSnapshot::view) {
+        None => KeyState::incept(&signed),
+        Some(view) => view.ingest(&signed),
+    };
+    match (judged.expect("accepted"), &event, held) {
+        (_, KeriEvent::Interaction(_), Some(held)) => held.clone().advance(&event),
+        (state, ..) => KeyStateSnapshot::from(&state),
     }
 }
 
@@ -84,7 +93,7 @@ fn timed(rounds: usize, calls: u64, parts: &mut [Box<dyn FnMut(u64) + '_>]) -> V
     times.into_iter().map(of).collect()
 }
 
-/// Ours and the Rust's: read, judge, both; then the device's call.
+/// Ours and the Rust's: read, judge; then the Rust's whole and the device's call.
 fn shape(rounds: usize, before: Option<Size>, record: &Record) -> Vec<Time> {
     let bytes = writer::whole(record).bytes;
     let body = &bytes[4..];
@@ -106,22 +115,26 @@ fn shape(rounds: usize, before: Option<Size>, record: &Record) -> Vec<Time> {
     let mut times = timed(rounds, calls, &mut [
         // SAFETY: pointers and lengths are those of live vectors that do not overlap.
         Box::new(|n| assert!(unsafe { timing_read(mark, body.as_ptr(), body.len(), n) } < 3)),
-        Box::new(|n| (0..n).for_each(|_| read(&bytes, None))),
+        Box::new(|n| (0..n).for_each(|_| drop(black_box(read(&bytes))))),
         Box::new(|n| assert_eq!(unsafe { timing_judge(held_body.as_ptr(), held_body.len(), mark, body.as_ptr(), body.len(), n) }, 0)),
         Box::new(|n| (0..n).for_each(|_| judge(held.as_ref(), &signed))),
-        Box::new(|n| assert_eq!(unsafe { timing_both(state.as_ptr(), state.len(), bytes.as_ptr(), bytes.len(), n) }, 0)),
-        Box::new(|n| (0..n).for_each(|_| read(&bytes, Some(held.as_ref())))),
+        Box::new(|n| (0..n).for_each(|_| drop(black_box(whole(&bytes, held.as_ref()))))),
         Box::new(|n| (0..n).for_each(|_| {
             buffer[..state.len()].copy_from_slice(&state);
             let (mut used, mut details) = (state.len(), [0; 4]);
             assert_eq!(unsafe { keystate_offer(buffer.as_mut_ptr(), 2285, &mut used, bytes.as_ptr(), bytes.len(), &mut details) }, 0);
         })),
         Box::new(|n| (0..n).for_each(|_| drop(black_box(black_box(&held).as_ref().map(KeyStateSnapshot::view))))),
+        Box::new(|n| (0..n).for_each(|_| drop(black_box(black_box(&held).clone())))),
     ]);
-    let view = times.pop().expect("the view's time");
-    for place in [3, 5] {
-        times[place].median -= view.median;
-        times[place].least -= view.least;
+    let (copy, view) = (times.pop().expect("the copy's time"), times.pop().expect("the view's time"));
+    let mut less = |place: usize, time: Time| {
+        times[place].median -= time.median;
+        times[place].least -= time.least;
+    };
+    less(3, view);
+    if matches!(record, Record::Interaction(_)) {
+        less(4, copy);
     }
     times
 }
@@ -132,13 +145,12 @@ fn pair(ours: Time, rust: Time) -> String {
 
 fn shapes(rounds: usize) {
     println!("Nanoseconds a call: the median of {rounds} rounds (the least).\n");
-    println!("| Shape | read: ours | Rust | ratio | judge: ours | Rust | ratio | device's call | Rust's both | ratio | by value | ratio |");
-    println!("|---|---|---|---|---|---|---|---|---|---|---|---|");
+    println!("| Shape | read: ours | Rust | ratio | judge: ours | Rust | ratio | device's call | the Rust's whole | ratio |");
+    println!("|---|---|---|---|---|---|---|---|---|---|");
     for (name, size) in [("one key", ONE), ("one key, its own prefix", Size { basic: true, ..ONE }), ("widest", WIDEST), ("widest, alike", Size { alike: true, ..WIDEST })] {
         for (kind, before, record) in [("IC", None, inception(size)), ("RO", Some(size), rotation(size, 1)), ("IX", Some(size), interaction(size, 1))] {
             let t = shape(rounds, before, &record);
-            println!("| {name}, {kind} | {} | {} | {} | {:.0} ({:.0}) | {:.2} ({:.2}) |", pair(t[0], t[1]), pair(t[2], t[3]), pair(t[6], t[5]),
-                t[4].median, t[4].least, t[4].median / t[5].median, t[4].least / t[5].least);
+            println!("| {name}, {kind} | {} | {} | {} |", pair(t[0], t[1]), pair(t[2], t[3]), pair(t[5], t[4]));
         }
     }
 }
@@ -146,12 +158,12 @@ fn shapes(rounds: usize) {
 /// Rotations that grow in one respect: judged, the least of the rounds.
 fn growth(rounds: usize) {
     println!("\nGrowth: a rotation, nanoseconds, the least of {rounds} rounds.\n");
-    println!("| What grows | how many | judge: ours | Rust | ratio | device's call | Rust's both | ratio |");
+    println!("| What grows | how many | judge: ours | Rust | ratio | device's call | the Rust's whole | ratio |");
     println!("|---|---|---|---|---|---|---|---|");
     let row = |what: &str, count: usize, size: Size| {
         let t = shape(rounds, Some(size), &rotation(size, 1));
-        let (judge, call) = (t[2].least / t[3].least, t[6].least / t[5].least);
-        println!("| {what} | {count} | {:.0} | {:.0} | {judge:.2} | {:.0} | {:.0} | {call:.2} |", t[2].least, t[3].least, t[6].least, t[5].least);
+        let (judge, call) = (t[2].least / t[3].least, t[5].least / t[4].least);
+        println!("| {what} | {count} | {:.0} | {:.0} | {judge:.2} | {:.0} | {:.0} | {call:.2} |", t[2].least, t[3].least, t[5].least, t[4].least);
     };
     for n in [1, 6, 12, 24, 48] {
         row("signatures (1 key)", n, Size { signatures: n, ..ONE });
