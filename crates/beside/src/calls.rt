@@ -12,7 +12,7 @@ use state::Holder;
 use threshold::Threshold;
 use toad::Taken;
 
-// What a call says: its answer, with a number behind it or not, or yes or no. A bad request is none that compare makes.
+// What a call says: its answer, with a value behind it or not, or yes or no. A bad request is none that compare makes.
 enum Said {
     Plain(Answer),
     With(Answer, u32),
@@ -35,17 +35,18 @@ fn judged(s: &[u8], end: usize, yes: bool) -> Said {
     Said::Bad
 }
 
-// The answer, and the threshold where it is 0.
+// A value stands behind an answer that is 0.
+fn valued(s: &[u8], end: usize, x: Answer, n: u32) -> Said {
+    if x.number != 0 || end != s.len() {
+        return told(s, end, x);
+    }
+    Said::With(x, n)
+}
+
 fn taken(s: &[u8], end: usize, t: Taken) -> Said {
     let x = t.answer;
     let toad = t.toad;
-    if x.number != 0 {
-        return told(s, end, x);
-    }
-    if end == s.len() {
-        return Said::With(x, toad.0);
-    }
-    Said::Bad
+    valued(s, end, x, toad.0)
 }
 
 fn ample(s: &[u8]) -> Said {
@@ -74,11 +75,12 @@ fn satisfied(sorted: bool, s: &[u8]) -> Said {
         return Said::Bad;
     };
     let n = count as usize;
-    if 64 < n {
+    let rest = read::part(s, at, s.len());
+    if 64 < n || rest.len() != n * 4 {
         return Said::Bad;
     }
     let t = q.threshold;
-    let ps = read::places(read::part(s, at, s.len()));
+    let ps = read::places(rest);
     let yes = satisfied_by(sorted, t, &ps[0..n]);
     Said::Yes(yes)
 }
@@ -177,36 +179,36 @@ fn receipts(s: &[u8]) -> Said {
     told(s, p.next, x)
 }
 
-fn put_yes(out: &mut [u8], at: usize, yes: bool) -> usize {
+fn put_yes(out: &mut [u8], yes: bool) -> usize {
     if yes {
-        return text::put_all(out, at, b"yes\n");
+        return text::put_all(out, 0, b"yes\n");
     }
-    text::put_all(out, at, b"no\n")
+    text::put_all(out, 0, b"no\n")
 }
 
-fn put_with(out: &mut [u8], at: usize, x: Answer, n: u32) -> usize {
-    let p = text::put_answer(out, at, x, b' ');
+fn put_with(out: &mut [u8], x: Answer, n: u32) -> usize {
+    let p = text::put_answer(out, 0, x, b' ');
     text::put_decimal(out, p, n as u64, b'\n')
 }
 
-fn put_said(out: &mut [u8], at: usize, x: Said) -> usize {
+fn put_said(out: &mut [u8], x: Said) -> usize {
     match x {
-        Said::Plain(y) => text::put_answer(out, at, y, b'\n'),
-        Said::With(y, n) => put_with(out, at, y, n),
-        Said::Yes(yes) => put_yes(out, at, yes),
-        Said::Bad => text::put_all(out, at, b"bad\n"),
+        Said::Plain(y) => text::put_answer(out, 0, y, b'\n'),
+        Said::With(y, n) => put_with(out, y, n),
+        Said::Yes(yes) => put_yes(out, yes),
+        Said::Bad => text::put_all(out, 0, b"bad\n"),
     }
 }
 
-fn put_members(out: &mut [u8], at: usize, x: Answer, l: Items) -> usize {
-    if x.number != 0 {
-        return text::put_answer(out, at, x, b'\n');
-    }
-    let p = text::put_answer(out, at, x, b' ');
+fn put_members(out: &mut [u8], x: Said, l: Items) -> usize {
+    let Said::With(y, _) = x else {
+        return put_said(out, x);
+    };
+    let p = text::put_answer(out, 0, y, b' ');
     text::put_items(out, p, l)
 }
 
-fn members(s: &[u8], out: &mut [u8], at: usize) -> usize {
+fn members(s: &[u8], out: &mut [u8]) -> usize {
     let p = read::list(s, 4, Kind::Key);
     let q = read::list(s, p.next, Kind::Key);
     let r = read::list(s, q.next, Kind::Key);
@@ -216,41 +218,41 @@ fn members(s: &[u8], out: &mut [u8], at: usize) -> usize {
     let c = member_set::update(current, cuts, adds);
     let x = c.answer;
     let list = c.list;
-    put_members(out, at, x, list)
-}
-
-// A room, and the bytes of a state, which are saved into so many bytes.
-fn saved(s: &[u8], buf: &mut [u8]) -> Answer {
-    let w = read::word(s, 4);
-    let room = w.n as usize;
-    if buf.len() < room {
-        return answer::refuse(1, 0, 0);
-    }
-    let h = restored(s, w.next);
-    snapshot::save(h, &mut buf[0..room])
+    put_members(out, valued(s, r.next, x, 0), list)
 }
 
 // No bytes are an empty holder, as bytes that are no state are.
-fn restored(s: &[u8], at: usize) -> Holder {
-    let r = restore::restore(read::part(s, at, s.len()));
+fn restored(s: &[u8]) -> Holder {
+    let r = restore::restore(s);
     r.holder
 }
 
-// The answer to a saving, and the bytes that it says are written.
-fn put_saved(out: &mut [u8], at: usize, x: Answer, buf: &[u8]) -> usize {
-    if x.number != 0 {
-        return text::put_answer(out, at, x, b'\n');
+// A room, and a state's bytes, which are read into structs and saved from them into so many bytes.
+fn saved(s: &[u8], buf: &mut [u8]) -> Said {
+    let w = read::word(s, 4);
+    let room = w.n as usize;
+    if buf.len() < room {
+        return Said::Bad;
     }
-    let size = x.a;
-    let p = text::put_answer(out, at, x, b' ');
-    let q = text::put_hex(out, p, read::part(buf, 0, size.low as usize), false);
-    text::put(out, q, b'\n')
+    let h = restored(read::part(s, w.next, s.len()));
+    let x = snapshot::save(h, &mut buf[0..room]);
+    valued(s, s.len(), x, 0)
 }
 
-fn save(s: &[u8], out: &mut [u8], at: usize) -> usize {
+// The bytes that the answer says are written stand behind it.
+fn put_saved(out: &mut [u8], x: Said, buf: &[u8]) -> usize {
+    let Said::With(y, _) = x else {
+        return put_said(out, x);
+    };
+    let size = y.a;
+    let p = text::put_answer(out, 0, y, b' ');
+    text::put_bytes(out, p, read::part(buf, 0, size.low as usize))
+}
+
+fn save(s: &[u8], out: &mut [u8]) -> usize {
     let mut buf = [0u8; 4096];
     let x = saved(s, &mut buf);
-    put_saved(out, at, x, &buf)
+    put_saved(out, x, &buf)
 }
 
 fn reply(mark: u16, s: &[u8]) -> Said {
@@ -273,16 +275,21 @@ fn reply(mark: u16, s: &[u8]) -> Said {
     }
 }
 
-// s is the whole request, its mark and length included.
-pub(crate) fn answer(s: &[u8], out: &mut [u8], at: usize) -> usize {
+fn put(s: &[u8], out: &mut [u8]) -> usize {
     let mark = read::mark(s);
     match mark {
         // ME, SA
-        0x4D45 => members(s, out, at),
-        0x5341 => save(s, out, at),
+        0x4D45 => members(s, out),
+        0x5341 => save(s, out),
         _ => {
             let x = reply(mark, s);
-            put_said(out, at, x)
+            put_said(out, x)
         }
     }
+}
+
+// s is the whole request, its mark and length included.
+pub(crate) fn answer(s: &[u8], out: &mut [u8]) {
+    let used = put(s, out);
+    text::write(out, used);
 }

@@ -20,10 +20,7 @@ fn is_flag(i: usize, letter: u8) -> bool {
 }
 
 fn asked(letter: u8) -> bool {
-    if is_flag(1, letter) {
-        return true;
-    }
-    is_flag(2, letter)
+    is_flag(1, letter) || is_flag(2, letter)
 }
 
 fn main() {
@@ -31,7 +28,7 @@ fn main() {
     let fold = asked(b'f');
     let mixed = asked(b'm');
     // a mixed input begins with a record that says what follows; before it there is nothing to end
-    let calls = if mixed { true } else { asked(b'c') };
+    let calls = mixed || asked(b'c');
     let mode = records::Mode {
         states,
         fold,

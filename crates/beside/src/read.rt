@@ -53,10 +53,7 @@ pub struct Wired {
 
 // The bytes between two places, or none.
 pub(crate) fn part(s: &[u8], from: usize, to: usize) -> &[u8] {
-    if s.len() < to {
-        return &s[..0];
-    }
-    if to < from {
+    if s.len() < to || to < from {
         return &s[..0];
     }
     &s[from..to]
@@ -140,7 +137,7 @@ pub(crate) fn quorum(s: &[u8], at: usize, kind: Kind) -> Group {
     }
 }
 
-// n numbers, at most 64, one behind the other.
+// The first 64 numbers; what cannot be had is 0.
 pub(crate) fn places(s: &[u8]) -> [u32; 64] {
     let mut places = [0u32; 64];
     let mut i: usize = 0;
@@ -168,7 +165,7 @@ fn siger(s: &[u8]) -> Siger {
     }
 }
 
-// n signatures, at most 48, one behind the other.
+// The first n signatures, at most 48.
 fn copied(s: &[u8], n: usize) -> Sigers {
     let nobody = verification::no_siger();
     let mut at = [nobody; 48];

@@ -12,27 +12,20 @@ pub struct Mode {
     pub mixed: bool,
 }
 
-// What goes from record to record: how many bytes of the state's buffer the state has, and how many of the output's are written.
+// What goes from record to record: beside the counts, how many bytes of its buffer the state has.
 pub struct Run {
     pub mode: Mode,
     pub tally: Tally,
     pub kept: usize,
-    pub used: usize,
 }
 
-pub(crate) fn begin(mode: Mode, used: usize) -> Run {
+pub(crate) fn begin(mode: Mode) -> Run {
     let tally = report::begin();
     Run {
         mode,
         tally,
         kept: 0,
-        used,
     }
-}
-
-pub(crate) fn wrote(mut run: Run, used: usize) -> Run {
-    run.used = used;
-    run
 }
 
 fn offer(state: &mut [u8], kept: &mut usize, mark: u16, body: &[u8]) -> Answer {
@@ -73,88 +66,72 @@ fn put_state(out: &mut [u8], at: usize, asked: bool, state: &[u8], kept: usize) 
     if kept == 0 {
         return text::put_all(out, at, b"-\n");
     }
-    let p = text::put_hex(out, at, read::part(state, 0, kept), false);
-    text::put(out, p, b'\n')
+    text::put_bytes(out, at, read::part(state, 0, kept))
 }
 
 // The lines for an answer.
-fn tell(run: Run, mark: u16, x: Answer, state: &[u8], out: &mut [u8]) -> Run {
-    let mode = run.mode;
+fn tell(mut run: Run, mark: u16, x: Answer, state: &[u8], out: &mut [u8]) -> Run {
     let before = run.tally;
-    let told = report::tell(before, mark, x, out, run.used);
+    let told = report::tell(before, mark, x, out, 0);
+    let used = put_state(out, told.at, run.mode.states, state, run.kept);
+    text::write(out, used);
     let tally = told.tally;
-    let used = put_state(out, told.at, mode.states, state, run.kept);
-    Run {
-        mode,
-        tally,
-        kept: run.kept,
-        used,
-    }
+    run.tally = tally;
+    run
 }
 
 // s is the record with its mark and length; of a long body the first bytes that decide.
 fn record(mut run: Run, s: &[u8], state: &mut [u8], out: &mut [u8]) -> Run {
-    let mode = run.mode;
+    let folds = run.mode.fold;
     let mark = read::mark(s);
-    let x = judge(
-        mode.fold,
-        state,
-        &mut run.kept,
-        mark,
-        read::part(s, 4, s.len()),
-    );
+    let body = read::part(s, 4, s.len());
+    let x = judge(folds, state, &mut run.kept, mark, body);
     tell(run, mark, x, state, out)
 }
 
 // "Fewer than 4 bytes left .., or a body past the end, is 1 and ends the input"
 pub(crate) fn cut(run: Run, state: &[u8], out: &mut [u8]) -> Run {
     if run.mode.calls {
-        let used = text::put_all(out, run.used, b"bad\n");
-        return wrote(run, used);
+        calls::answer(b"", out);
+        return run;
     }
     let x = answer::refuse(1, 0, 0);
     tell(run, 0, x, state, out)
 }
 
 // The last line; a run of calls has none.
-pub(crate) fn finish(run: Run, state: &[u8], out: &mut [u8]) -> Run {
+pub(crate) fn finish(run: Run, state: &[u8], out: &mut [u8]) {
     if run.mode.calls {
-        return run;
+        return;
     }
     let tally = run.tally;
-    let used = report::tell_end(tally, state, run.kept, out, run.used);
-    wrote(run, used)
+    let used = report::tell_end(tally, state, run.kept, out, 0);
+    text::write(out, used);
 }
 
-// One of two letters.
+// No mode takes more than two letters.
 fn has(s: &[u8], letter: u8) -> bool {
-    if read::byte(s, 4) == letter {
-        return true;
-    }
-    read::byte(s, 5) == letter
+    read::byte(s, 4) == letter || read::byte(s, 5) == letter
 }
 
 // A record with mark 0 in a mixed input: the letters of its body are the flags for what follows, with an empty holder.
 fn again(run: Run, s: &[u8], state: &[u8], out: &mut [u8]) -> Run {
-    let done = finish(run, state, out);
-    let mode = Mode {
+    finish(run, state, out);
+    begin(Mode {
         states: has(s, b's'),
         fold: has(s, b'f'),
         calls: has(s, b'c'),
         mixed: true,
-    };
-    begin(mode, done.used)
+    })
 }
 
 pub(crate) fn one(run: Run, s: &[u8], state: &mut [u8], out: &mut [u8]) -> Run {
-    if run.mode.mixed {
-        if read::mark(s) == 0 {
-            return again(run, s, state, out);
-        }
+    if run.mode.mixed && read::mark(s) == 0 {
+        return again(run, s, state, out);
     }
     if run.mode.calls {
-        let used = calls::answer(s, out, run.used);
-        return wrote(run, used);
+        calls::answer(s, out);
+        return run;
     }
     record(run, s, state, out)
 }

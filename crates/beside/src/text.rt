@@ -1,10 +1,11 @@
 // Text into a lent buffer: each function writes from a place on and gives the place behind. What has no room is dropped.
+use crate::read;
 use answer::Answer;
 use item::Item;
 use items::Items;
 use number::Number;
 
-pub(crate) fn put(out: &mut [u8], at: usize, b: u8) -> usize {
+fn put(out: &mut [u8], at: usize, b: u8) -> usize {
     if at < out.len() {
         out[at] = b;
         return at + 1;
@@ -32,13 +33,6 @@ fn put_word(out: &mut [u8], at: usize, n: u64, width: usize) -> usize {
     put_all(out, at, &digits[..k])
 }
 
-fn is_bare(bare: bool, b: u8) -> bool {
-    if bare {
-        return b == 0;
-    }
-    false
-}
-
 // Two digits; where `bare`, without leading zeros.
 fn put_byte(out: &mut [u8], at: usize, bare: bool, b: u8) -> usize {
     if !bare {
@@ -51,17 +45,23 @@ fn put_byte(out: &mut [u8], at: usize, bare: bool, b: u8) -> usize {
 }
 
 // Bytes in hex; where `short`, without leading zeros.
-pub(crate) fn put_hex(out: &mut [u8], at: usize, src: &[u8], short: bool) -> usize {
+fn put_hex(out: &mut [u8], at: usize, src: &[u8], short: bool) -> usize {
     let mut p = at;
     let mut bare = short;
     let mut i: usize = 0;
     while i < src.len() {
         let b = src[i];
         p = put_byte(out, p, bare, b);
-        bare = is_bare(bare, b);
+        bare = bare && b == 0;
         i += 1;
     }
     p
+}
+
+// A line of bytes in hex.
+pub(crate) fn put_bytes(out: &mut [u8], at: usize, src: &[u8]) -> usize {
+    let p = put_hex(out, at, src, false);
+    put(out, p, b'\n')
 }
 
 pub(crate) fn put_decimal(out: &mut [u8], at: usize, n: u64, behind: u8) -> usize {
@@ -102,10 +102,7 @@ fn put_item(out: &mut [u8], at: usize, x: Item, behind: u8) -> usize {
 }
 
 fn after(i: usize, n: usize) -> u8 {
-    if i < n {
-        return b',';
-    }
-    b'\n'
+    if i < n { b',' } else { b'\n' }
 }
 
 fn put_each(out: &mut [u8], at: usize, items: [Item; 16], n: usize) -> usize {
@@ -129,4 +126,8 @@ pub(crate) fn put_items(out: &mut [u8], at: usize, l: Items) -> usize {
         return put_all(out, at, b"-\n");
     }
     put_each(out, at, items, l.count)
+}
+
+pub(crate) fn write(out: &[u8], used: usize) {
+    stream::write_all(read::part(out, 0, used));
 }

@@ -5,7 +5,7 @@ use Rattle.beside.proofs.window.run.Statement.{statement}
 use Rattle.beside.proofs.window.run.Tie as tie
 
 abbrev Inv-loop : tie.InvT-loop
-Inv-loop window₀ state₀ out₀ run₀ span₀ turns₀ window state out run span turns = (length window ≡ 16384) × ((length state ≡ 2285) × (length out ≡ 32768))
+Inv-loop window₀ state₀ out₀ run₀ span₀ turns₀ window state out run span turns = (length window ≡ 16384) × ((length state ≡ 2285) × (length out ≡ 8192))
 
 abbrev μ-loop : tie.MeasureT-loop
 μ-loop window₀ state₀ out₀ run₀ span₀ turns₀ window state out run span turns = turns
@@ -27,6 +27,7 @@ run-spec =
     (λ c κs. search needs)
     (λ c. search needs)
     (λ c. search needs)
+    (λ c κs. search needs)
     (λ c. search needs)
     (λ c. search needs)
     (λ c κs. search needs)
