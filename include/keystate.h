@@ -70,7 +70,7 @@ enum keystate_number {
   KEYSTATE_EMPTY_CLAUSE = 26,
   KEYSTATE_MISSING_SIGNATURES = 27,                    /* a: how many keys signed */
   KEYSTATE_PRIOR_NEXT_THRESHOLD_UNSATISFIED = 28,      /* a: how many committed keys were shown */
-  KEYSTATE_NON_TRANSFERABLE_COMMITS_NEXT_KEYS = 29,
+  KEYSTATE_NON_TRANSFERABLE_COMMITS_NEXT_KEYS = 29,    /* reserved: never answered, since 12 to 15 come first (docs/NUMBERS.md) */
   KEYSTATE_WITNESS_THRESHOLD_ZERO_WITH_WITNESSES = 30, /* a: witnesses */
   KEYSTATE_WITNESS_THRESHOLD_EXCEEDED = 31,            /* a: the threshold, b: witnesses */
   KEYSTATE_INSUFFICIENT_WITNESS_RECEIPTS = 32,         /* a: valid ones, b: required */

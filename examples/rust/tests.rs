@@ -134,3 +134,22 @@ fn names() {
     assert_eq!(refusal.to_string(), "35 OutOfOrder (a 2, b 1)");
     assert_eq!(NAMES[41], "NoRoom");
 }
+
+// The header has every name but those of direct calls, docs/NUMBERS.md has all of them.
+#[test]
+fn names_are_told_alike() {
+    let snake = |name: &str| -> String {
+        let parts = name.chars().map(|c| if c.is_uppercase() { format!("_{c}") } else { c.to_uppercase().to_string() });
+        parts.collect::<String>().trim_start_matches('_').to_string()
+    };
+    let header = include_str!("../../include/keystate.h");
+    let paper = include_str!("../../docs/NUMBERS.md");
+    for (number, name) in NAMES.iter().enumerate() {
+        let direct = number == 39 || number == 40;
+        let line = format!("  KEYSTATE_{} = {number}", snake(name));
+        let told = header.lines().any(|l| l.starts_with(&line) && !l[line.len()..].starts_with(|c: char| c.is_ascii_digit()));
+        assert_eq!(told, !direct, "{line}");
+        assert_eq!(paper.matches(&format!("| {number} | {name} |")).count(), 1, "{name}");
+    }
+    assert_eq!(paper.lines().filter(|l| l.starts_with("| ") && l.as_bytes()[2].is_ascii_digit()).count(), NAMES.len());
+}

@@ -20,7 +20,11 @@ use Rattle.items.specs.declared.Items.{Items}
 use Rattle.items.specs.Items.{packed}
 use Rattle.shape.specs.Event.{shapeAs, eventShape}
 use Rattle.shape.specs.State.{stateShape}
-use Rattle.rules.specs.Rules.{newWitnesses}
+use Rattle.shape.proofs.Laws.{good-prefix}
+use Rattle.rules.specs.Rules.{ofPrefix, newWitnesses}
+use Rattle.ingest.specs.Judgement.{incepted}
+use Rattle.ingest.proofs.Laws.{of-good, clean-inception}
+use Rattle.field.specs.Field.{itemOf}
 use Rattle.layout.specs.Records.{event, snapshot, contentOf, markOf, bodyLength}
 use Rattle.decoded.specs.Decoded.{Shaped}
 use Rattle.decoded.proofs.Shapes.{decoded-shape}
@@ -70,6 +74,10 @@ module _ (s : List ℕ) where
   inception-shape : (m : EventMarks) → Got (inceptionPlaces s 0) m → shapeAs Inception (eventOf Inception s m) ≡ 0
   unfolding eventShape
   inception-shape m g = let e : Shaped (event (eventOf Inception s m)) = rw (content-inception m g) at (decoded-shape 0x4943 s) in e
+
+  -- a prefix that was read is one: 3 does not come again
+  pub prefix-read : (m : EventMarks) → Got (inceptionPlaces s 0) m → ofPrefix (itemOf s (m .head .prefix)) (incepted (eventOf Inception s m)) ≡ incepted (eventOf Inception s m)
+  prefix-read m g = of-good (itemOf s (m .head .prefix)) (incepted (eventOf Inception s m)) (good-prefix (eventOf Inception s m) (inception-shape m g)) (clean-inception _ _ _ _ _)
 
   rotation-shape : (m : EventMarks) → Got (rotationPlaces s 0) m → shapeAs Rotation (eventOf Rotation s m) ≡ 0
   unfolding eventShape

@@ -11,6 +11,8 @@ use Rattle.answer.specs.declared.Answer.{Answer}
 use Rattle.answer.specs.Answer.{refused, firstRefusal}
 use Rattle.answer.proofs.Laws.{Clean, clean-first, here, past, last}
 use Rattle.item.specs.declared.Item.{Item}
+use Rattle.item.specs.declared.Kind.the-variants.{Prefix}
+use Rattle.item.specs.Item.{itemFits}
 use Rattle.items.specs.Items.{packed}
 use Rattle.member_set.specs.declared.Change.{Change}
 use Rattle.verification.specs.Verification.{signatures}
@@ -19,13 +21,15 @@ use Rattle.evidence.specs.Evidence.{evidenceOf, signedOn, exposedOn, receiptedO
 use Rattle.evidence.proofs.Laws.{signed-is, exposed-is, receipted-is}
 use Rattle.event.specs.declared.Ilk.{Ilk}
 use Rattle.event.specs.declared.Ilk.the-variants.{Inception, Rotation, Interaction, DelegatedInception, DelegatedRotation}
+use Rattle.event.specs.declared.Head.{Head}
+use Rattle.event.specs.declared.Body.{Body}
 use Rattle.event.specs.declared.Event.{Event}
 use Rattle.state.specs.declared.KeyState.{KeyState}
 use Rattle.state.specs.declared.Holder.{Holder}
 use Rattle.state.specs.State.{mayMove, isHeld, holding}
 use Rattle.shape.specs.Event.{eventShape}
 use Rattle.shape.specs.State.{holderShape}
-use Rattle.rules.specs.Rules.{inception, rotation, interaction, changed}
+use Rattle.rules.specs.Rules.{prefixShape, ofPrefix, inception, rotation, interaction, changed}
 use Rattle.ingest.specs.Judgement.{incepted, rotates, interacts, onNothing, whereLive, onState, judgement, nextAs, nextState, shaped, settled}
 
 -- ---- a refusal leaves the holder, an acceptance holds the next state
@@ -85,9 +89,12 @@ interact-lists s e v is =
     (receipted-by e (s .authority .keys .count) 0 v is (s .witnessing .toad))
 
 -- ---- a judgement that passes has no details
-clean-nothing : (k : Ilk) (e : Event) → Clean (onNothing k e)
+pub clean-inception : (h : Head) (b : Body) (anchors : ℕ) (signed : Answer) (receipted : ℕ → Answer) → Clean (inception h b anchors signed receipted)
 unfolding inception
-clean-nothing Inception e = clean-first _
+clean-inception h b anchors signed receipted = clean-first _
+
+clean-nothing : (k : Ilk) (e : Event) → Clean (onNothing k e)
+clean-nothing Inception e = clean-inception _ _ _ _ _
 clean-nothing Rotation e = λ p. clash (sym p)
 clean-nothing Interaction e = λ p. clash (sym p)
 clean-nothing DelegatedInception e = λ p. clash (sym p)
@@ -109,6 +116,12 @@ pub clean-judgement : (h : Holder) (e : Event) → Clean (judgement h e)
 unfolding judgement onState
 clean-judgement h e =
     either-clean (isHeld h) _ _ (either-clean (mayMove (h .state)) _ _ (clean-live (e .ilk) (h .state) e) (λ p. clash (sym p))) (clean-nothing (e .ilk) e)
+
+-- ---- behind a prefix that is one
+pub of-good : (prefix : Item) (x : Answer) → itemFits Prefix prefix ≡ true → Clean x → ofPrefix prefix x ≡ x
+of-good prefix x fits clean =
+    let shaped-well : prefixShape prefix ≡ refused 0 0 0 = rw fits in
+    past (refused 0 0 0) (prefixShape prefix) (x ∷ []) (sym shaped-well) refl ∙ sym (last x x clean refl)
 
 -- ---- an entry: the holder's shape, the event's shape, then x
 module _ (h : Holder) (e : Event) (x : Answer) (after : Holder) (n : ℕ) (en : n ≡ holderShape h) where

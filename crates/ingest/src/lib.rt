@@ -1,12 +1,16 @@
 // The decision: an event offered to an empty or held state gets document 01's answer and the next state.
 ghost use mathlib.Core.Path.{_≡_};
+ghost use mathlib.Core.Bool.{true};
+ghost use Rattle.item.specs.Item.{itemFits};
+ghost use Rattle.item.specs.declared.Kind.the-variants.{Prefix};
 ghost use Rattle.items.specs.Items.{packed};
 ghost use Rattle.verification.specs.Verification.{signatures};
 ghost use Rattle.evidence.specs.Evidence.{evidenceOf, signedOn, exposedOn, receiptedOn};
 ghost use Rattle.state.specs.State.{holding, seeded, rotated, stepped};
-ghost use Rattle.rules.specs.Rules.{inception, rotation, interaction, newWitnesses};
+ghost use Rattle.rules.specs.Rules.{ofPrefix, inception, rotation, interaction, newWitnesses};
 ghost use Rattle.answer.specs.Answer.{refused};
 ghost use Rattle.event.specs.declared.Ilk.the-variants.{Inception, Rotation, Interaction};
+ghost use Rattle.shape.specs.Event.{eventShape};
 ghost use Rattle.ingest.specs.Judgement.{settled, onNothing, whereLive, onState, judgement, nextAs, nextState, offered};
 use answer::Answer;
 use event::Body;
@@ -49,8 +53,8 @@ fn take(s: KeyState, x: Answer) -> Offered
 }
 
 // An inception on sets of places: its own keys sign, its own witnesses receipt.
-pub fn incept(before: Holder, h: Head, b: Body, anchors: u32, v: Evidence) -> Offered
-    ensures { λ r. ⌜ r ≡ settled before (inception h b anchors (signedOn (b .authority .threshold) v) (receiptedOn (b .toad) v)) (holding (seeded h b)) ⌝ }
+fn incept(before: Holder, h: Head, b: Body, anchors: u32, v: Evidence) -> Offered
+    ensures { λ r. ⌜ r ≡ settled before (ofPrefix (h .prefix) (inception h b anchors (signedOn (b .authority .threshold) v) (receiptedOn (b .toad) v))) (holding (seeded h b)) ⌝ }
 {
     let x = judge_structs::incept(h, b, anchors, v);
     if x.number != 0 {
@@ -62,7 +66,7 @@ pub fn incept(before: Holder, h: Head, b: Body, anchors: u32, v: Evidence) -> Of
 }
 
 // A rotation on sets of places: the keys that it brings sign, the state's commitment is exposed, the new witnesses receipt.
-pub fn rotate(before: Holder, h: Head, b: Body, v: Evidence) -> Offered
+fn rotate(before: Holder, h: Head, b: Body, v: Evidence) -> Offered
     ensures { λ r. ⌜ r ≡ settled before (rotation (before .state) h b (signedOn (b .authority .threshold) v) (exposedOn (before .state .commitment .threshold) v) (receiptedOn (b .toad) v)) (holding (rotated (before .state) h b (packed (newWitnesses (before .state) b)))) ⌝ }
 {
     let old = before.state;
@@ -77,7 +81,7 @@ pub fn rotate(before: Holder, h: Head, b: Body, v: Evidence) -> Offered
 }
 
 // An interaction on sets of places: the state's keys sign, the state's witnesses receipt.
-pub fn interact(before: Holder, h: Head, v: Evidence) -> Offered
+fn interact(before: Holder, h: Head, v: Evidence) -> Offered
     ensures { λ r. ⌜ r ≡ settled before (interaction (before .state) h (signedOn (before .state .authority .threshold) v) (receiptedOn (before .state .witnessing .toad) v)) (holding (stepped (before .state) h)) ⌝ }
 {
     let old = before.state;
@@ -98,6 +102,7 @@ fn gather(e: Event, keys: usize, next: usize) -> Evidence
 }
 
 fn offer_inception(before: Holder, e: Event) -> Offered
+    requires { ⌜ itemFits Prefix (e .head .prefix) ≡ true ⌝ }
     ensures { λ r. ⌜ r ≡ settled before (onNothing Inception e) (holding (seeded (e .head) (e .body))) ⌝ }
 {
     let h = e.head;
@@ -134,6 +139,7 @@ fn offer_interaction(before: Holder, e: Event) -> Offered
 }
 
 fn on_nothing(before: Holder, e: Event) -> Offered
+    requires { ⌜ eventShape e ≡ 0 ⌝ }
     ensures { λ r. ⌜ r ≡ settled before (onNothing (e .ilk) e) (holding (nextState (before .state) e)) ⌝ }
 {
     let ilk = e.ilk;
@@ -171,6 +177,7 @@ fn on_state(before: Holder, e: Event) -> Offered
 }
 
 fn judge(before: Holder, e: Event) -> Offered
+    requires { ⌜ eventShape e ≡ 0 ⌝ }
     ensures { λ r. ⌜ r ≡ settled before (judgement before e) (holding (nextState (before .state) e)) ⌝ }
 {
     let held = before.held;

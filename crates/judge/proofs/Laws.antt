@@ -26,8 +26,9 @@ use Rattle.event.specs.declared.Head.{Head}
 use Rattle.event.specs.declared.Ilk.the-variants.{Inception, Rotation, Interaction}
 use Rattle.evidence.specs.declared.Evidence.{Evidence}
 use Rattle.evidence.specs.Evidence.{evidenceOf, signedOn, receiptedOn}
-use Rattle.rules.specs.Rules.{chainsOnto, mayInteract, interaction, rewitness, rotation}
-use Rattle.rules.proofs.Laws.{clean-receipts, incepts, change-stops, no-toad, no-receipts, rewitnesses}
+use Rattle.rules.specs.Rules.{chainsOnto, ofPrefix, mayInteract, interaction, rewitness, rotation}
+use Rattle.rules.proofs.Laws.{clean-receipts, change-stops, no-toad, no-receipts, rewitnesses}
+use Rattle.reserved.proofs.Laws.{incepts}
 use Rattle.ingest.specs.Judgement.{incepted, rotates, interacts}
 use Rattle.ingest.proofs.Laws.{incept-lists, rotate-lists, interact-lists}
 use Rattle.cursor.specs.Spans.{listOf, manyOf}
@@ -91,12 +92,12 @@ module _ (s : List ℕ) (m : EventMarks) (prefix : Item) (keys next witnesses : 
   pub inception-at : firstRefusal (
       firstRefusal (startAt s (m .head) (m .body) prefix next witnesses (m .tail .anchors))
       ∷ firstRefusal (keysAt s (m .body .signers) keys next v)
-      ∷ firstRefusal (witnessesAt (prefix .code) next (m .body .toad) witnesses v)
-      ∷ []) ≡ incepted (eventOf Inception s m)
+      ∷ firstRefusal (witnessesAt (m .body .toad) witnesses v)
+      ∷ []) ≡ ofPrefix (itemOf s (m .head .prefix)) (incepted (eventOf Inception s m))
   inception-at =
       rw (ep, ek, en, ew)
       (incepts (headOf s (m .head)) (bodyOf s (m .body)) (m .tail .anchors) (signedOn (thresholdAt s (m .body .signers .authority)) v) (receiptedOn (m .body .toad) v)
-      ∙ incept-lists (eventOf Inception s m) v (gathered s (m .tail) keys 0 _ 0 v ev ek refl))
+      ∙ ap (ofPrefix (itemOf s (m .head .prefix))) (incept-lists (eventOf Inception s m) v (gathered s (m .tail) keys 0 _ 0 v ev ek refl)))
 
 -- ---- an interaction
 module _ (st : List ℕ) (sm : StateMarks) (s : List ℕ) (m : EventMarks) (keys witnesses : ℕ) (v : Evidence)

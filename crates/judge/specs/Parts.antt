@@ -15,7 +15,7 @@ use Rattle.member_set.specs.declared.Change.{Change}
 use Rattle.inception.specs.Identity.{identity}
 use Rattle.evidence.specs.declared.Evidence.{Evidence}
 use Rattle.evidence.specs.Evidence.{evidenceOf, signedOn, exposedOn, receiptedOn}
-use Rattle.rules.specs.Rules.{chainsOnto, genesisSn, nextForm, nextFormOf, mayCommitOf, witnessStages, changed}
+use Rattle.rules.specs.Rules.{chainsOnto, genesisHead, nextForm, nextFormOf, witnessStages, changed}
 use Rattle.field.specs.Field.{itemOf, itemsOf}
 use Rattle.threshold_field.specs.ThresholdField.{thresholdOf}
 use Rattle.wire.specs.Wire.{sigersOf}
@@ -49,7 +49,7 @@ identityAt s own prefix next witnesses anchors = identity prefix (listAt s (own 
 
 abbrev pub startAt : List ℕ → HeadMarks → BodyMarks → Item → ℕ → ℕ → ℕ → List Answer
 startAt s h b prefix next witnesses anchors =
-    genesisSn (h .sn)
+    genesisHead prefix (h .sn)
     ∷ identityAt s (b .signers .authority) prefix next witnesses anchors
     ∷ witnessFaults 1 (listed (listAt s (b .additions)))
     ∷ []
@@ -62,10 +62,9 @@ keysAt s q keys next v =
     ∷ nextFormAt s (q .commitment) next
     ∷ []
 
--- "29; 30 or 31; 32"
-abbrev pub witnessesAt : ℕ → ℕ → ℕ → ℕ → Evidence → List Answer
-witnessesAt code next toad witnesses v =
-    mayCommitOf code next ∷ witnessThreshold toad witnesses ∷ receiptedOn toad v witnesses ∷ []
+-- "30 or 31; 32"
+abbrev pub witnessesAt : ℕ → ℕ → Evidence → List Answer
+witnessesAt toad witnesses v = witnessThreshold toad witnesses ∷ receiptedOn toad v witnesses ∷ []
 
 -- ---- "RO: 33, 34, 35, 36; own threshold; next threshold if next is not empty; 27; 28"
 abbrev pub chainsAt : List ℕ → HeadMarks → List ℕ → HeadMarks → Answer

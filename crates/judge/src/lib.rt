@@ -7,7 +7,8 @@ ghost use Rattle.answer.specs.Answer.{firstRefusal};
 ghost use Rattle.event.specs.declared.Ilk.the-variants.{Inception, Rotation, Interaction};
 ghost use Rattle.items.specs.Items.{listed};
 ghost use Rattle.member_set.specs.Members.{witnessFaults};
-ghost use Rattle.rules.specs.Rules.{changed, newWitnesses};
+ghost use Rattle.field.specs.Field.{itemOf};
+ghost use Rattle.rules.specs.Rules.{ofPrefix, changed, newWitnesses};
 ghost use Rattle.ingest.specs.Judgement.{incepted, rotates, interacts};
 ghost use Rattle.parts.specs.Parts.{bodyOf};
 ghost use Rattle.record.specs.Marks.{stateOf, eventOf};
@@ -68,7 +69,7 @@ fn next_form(s: &[u8], q: QuorumMarks, next: usize) -> Answer
     rules::next_form(next, form)
 }
 
-// 11; 12 to 17; 18, 19.
+// 3 for a prefix that is none; 11; 12 to 17; 18, 19.
 fn inception_start(
     s: &[u8],
     h: HeadMarks,
@@ -81,7 +82,7 @@ fn inception_start(
     ensures { λ r. ⌜ r ≡ firstRefusal (startAt (now (s .entry)) h b prefix next witnesses anchors) ⌝ }
 {
     let sn = h.sn;
-    let x = rules::genesis_sn(sn);
+    let x = rules::genesis(prefix, sn);
     if x.number != 0 {
         return x;
     }
@@ -113,23 +114,20 @@ fn inception_keys(s: &[u8], q: SignersMarks, keys: usize, next: usize, v: Eviden
     next_form(s, coming, next)
 }
 
-// 29; 30 or 31; 32.
-fn inception_witnesses(code: u8, next: usize, toad: u32, witnesses: usize, v: Evidence) -> Answer
-    ensures { λ r. ⌜ r ≡ firstRefusal (witnessesAt code next toad witnesses v) ⌝ }
+// 30 or 31; 32.
+fn inception_witnesses(toad: u32, witnesses: usize, v: Evidence) -> Answer
+    ensures { λ r. ⌜ r ≡ firstRefusal (witnessesAt toad witnesses v) ⌝ }
 {
-    let x = rules::may_commit(code, next);
+    let x = toad::check_witness_threshold(toad, witnesses);
     if x.number != 0 {
         return x;
-    }
-    let y = toad::check_witness_threshold(toad, witnesses);
-    if y.number != 0 {
-        return y;
     }
     evidence::receipted(toad, v, witnesses)
 }
 
+// 29 has no check: 12 to 15 come first (reserved/proofs/Laws).
 pub fn incept(s: &[u8], m: EventMarks) -> Answer
-    ensures { λ r. ⌜ r ≡ incepted (eventOf Inception (now (s .entry)) m) ⌝ }
+    ensures { λ r. ⌜ r ≡ ofPrefix (itemOf (now (s .entry)) (m .head .prefix)) (incepted (eventOf Inception (now (s .entry)) m)) ⌝ }
 {
     let h = m.head;
     let b = m.body;
@@ -150,7 +148,7 @@ pub fn incept(s: &[u8], m: EventMarks) -> Answer
     if y.number != 0 {
         return y;
     }
-    inception_witnesses(prefix.code, next, b.toad, witnesses, v)
+    inception_witnesses(b.toad, witnesses, v)
 }
 
 fn chain(st: &[u8], old: HeadMarks, s: &[u8], h: HeadMarks) -> Answer

@@ -6,7 +6,7 @@ ghost use Rattle.answer.specs.Answer.{firstRefusal};
 ghost use Rattle.items.specs.Items.{listed};
 ghost use Rattle.member_set.specs.Members.{witnessFaults};
 ghost use Rattle.evidence.specs.Evidence.{signedOn, exposedOn, receiptedOn};
-ghost use Rattle.rules.specs.Rules.{genesisSn, identityOf, ownForm, nextForm, mayCommit, toadFits};
+ghost use Rattle.rules.specs.Rules.{genesisHead, ofPrefix, identityOf, ownForm, nextForm, toadFits};
 ghost use Rattle.rules.specs.Rules.{inception, newWitnesses, changed, rotation, interaction};
 use answer::Answer;
 use authority::Authority;
@@ -47,12 +47,13 @@ fn identity(h: Head, b: Body, anchors: u32) -> Answer
     inception::check_identity(prefix, keys, t, next.count, witnesses.count, anchors)
 }
 
-// 11; 12 to 17; 18, 19.
+// 3 for a prefix that is none; 11; 12 to 17; 18, 19.
 fn inception_start(h: Head, b: Body, anchors: u32) -> Answer
-    ensures { λ r. ⌜ r ≡ firstRefusal (genesisSn (h .sn) ∷ identityOf h b anchors ∷ witnessFaults 1 (listed (b .additions)) ∷ []) ⌝ }
+    ensures { λ r. ⌜ r ≡ firstRefusal (genesisHead (h .prefix) (h .sn) ∷ identityOf h b anchors ∷ witnessFaults 1 (listed (b .additions)) ∷ []) ⌝ }
 {
+    let prefix = h.prefix;
     let sn = h.sn;
-    let x = rules::genesis_sn(sn);
+    let x = rules::genesis(prefix, sn);
     if x.number != 0 {
         return x;
     }
@@ -82,27 +83,21 @@ fn inception_keys(b: Body, v: Evidence) -> Answer
     next_form(next)
 }
 
-// 29; 30 or 31; 32.
-fn inception_witnesses(h: Head, b: Body, v: Evidence) -> Answer
-    ensures { λ r. ⌜ r ≡ firstRefusal (mayCommit (h .prefix) (b .commitment) ∷ toadFits b (b .additions .count) ∷ receiptedOn (b .toad) v (b .additions .count) ∷ []) ⌝ }
+// 30 or 31; 32.
+fn inception_witnesses(b: Body, v: Evidence) -> Answer
+    ensures { λ r. ⌜ r ≡ firstRefusal (toadFits b (b .additions .count) ∷ receiptedOn (b .toad) v (b .additions .count) ∷ []) ⌝ }
 {
-    let prefix = h.prefix;
-    let committed = b.commitment;
-    let next = committed.next;
-    let x = rules::may_commit(prefix.code, next.count);
+    let witnesses = b.additions;
+    let x = toad::check_witness_threshold(b.toad, witnesses.count);
     if x.number != 0 {
         return x;
-    }
-    let witnesses = b.additions;
-    let y = toad::check_witness_threshold(b.toad, witnesses.count);
-    if y.number != 0 {
-        return y;
     }
     evidence::receipted(b.toad, v, witnesses.count)
 }
 
+// 29 has no check: 12 to 15 come first (reserved/proofs/Laws).
 pub fn incept(h: Head, b: Body, anchors: u32, v: Evidence) -> Answer
-    ensures { λ r. ⌜ r ≡ inception h b anchors (signedOn (b .authority .threshold) v) (receiptedOn (b .toad) v) ⌝ }
+    ensures { λ r. ⌜ r ≡ ofPrefix (h .prefix) (inception h b anchors (signedOn (b .authority .threshold) v) (receiptedOn (b .toad) v)) ⌝ }
 {
     let x = inception_start(h, b, anchors);
     if x.number != 0 {
@@ -112,7 +107,7 @@ pub fn incept(h: Head, b: Body, anchors: u32, v: Evidence) -> Answer
     if y.number != 0 {
         return y;
     }
-    inception_witnesses(h, b, v)
+    inception_witnesses(b, v)
 }
 
 // The own threshold; the next threshold; 27; 28 against what the state committed to.

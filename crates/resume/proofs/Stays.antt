@@ -41,7 +41,8 @@ use Rattle.shape.specs.Event.{firstHead, laterHead, ownShape, nextShape, bodySh
 use Rattle.shape.specs.State.{stateHead, stateTail, stateShape, holderShape}
 use Rattle.rules.specs.Rules.{rotation, rewitness, newWitnesses}
 use Rattle.ingest.specs.Judgement.{offered, answerTo, judgement, onState, onNothing, whereLive, nextState, nextAs, rotates}
-use Rattle.snapshot.proofs.Shapes.{no-fault, item-fits, GoodState, good-state}
+use Rattle.shape.proofs.Laws.{no-fault, item-fits}
+use Rattle.snapshot.proofs.Shapes.{GoodState, good-state}
 use Rattle.fold.specs.Fold.{foldable, foldedAs, foldAnswer, foldState, folded}
 use Rattle.snapshot.proofs.Real.{Words, RealState}
 use Rattle.decoded.proofs.Gives.{Each}

@@ -9,22 +9,25 @@ use lib.ListN.{length}
 use borrow.Author.Tests.{ne-eqb, eq-eqb}
 use Rattle.lists.specs.Lists.{pick}
 use Rattle.lists.proofs.Facts.{clash}
+use Rattle.number.specs.declared.Number.{Number}
+use Rattle.number.specs.Number.{small, sameNumber}
 use Rattle.answer.specs.declared.Answer.{Answer}
 use Rattle.answer.specs.Answer.{refused, accepted, firstRefusal}
-use Rattle.answer.proofs.Laws.{Clean, clean-first, here, past, last, three-groups}
+use Rattle.answer.proofs.Laws.{Clean, clean-first, clean-unless, here, past, last}
 use Rattle.item.specs.declared.Item.{Item}
 use Rattle.items.specs.declared.Items.{Items}
-use Rattle.items.specs.Items.{packed, listed}
+use Rattle.items.specs.Items.{packed}
 use Rattle.threshold.specs.declared.Threshold.{Threshold}
 use Rattle.threshold.specs.Threshold.{wellFormed}
 use Rattle.threshold.proofs.Laws.{clean-form}
 use Rattle.authority.specs.Authority.{receipts}
 use Rattle.member_set.specs.declared.Change.{Change}
 use Rattle.member_set.specs.Members.{witnessFaults, changeOf}
-use Rattle.event.specs.declared.Head.{Head}
-use Rattle.event.specs.declared.Body.{Body}
 use Rattle.toad.specs.Toad.{witnessThreshold}
-use Rattle.rules.specs.Rules.{genesisSn, identityOf, ownForm, nextForm, nextFormOf, mayCommit, toadFits, inception, witnessStages, changed}
+use Rattle.rules.specs.Rules.{genesisSn, nextFormOf, witnessStages, changed}
+
+pub clean-sn : (sn : Number) → Clean (genesisSn sn)
+clean-sn sn = clean-unless (sameNumber sn (small 0)) _ refl
 
 pub clean-witnesses : (list : ℕ) (xs : List Item) → Clean (witnessFaults list xs)
 unfolding witnessFaults
@@ -64,21 +67,6 @@ room new e = by-test (leb (length new) 16) e
     by-test : (t : Bool) → roomed t new .answer .number ≡ 0 → roomed t new .list ≡ packed new
     by-test true p = refl
     by-test false p = absurd (omega (arith, p))
-
--- ---- the rules from their groups
-abbrev pub startOf : Head → Body → ℕ → List Answer
-startOf h b anchors = genesisSn (h .sn) ∷ identityOf h b anchors ∷ witnessFaults 1 (listed (b .additions)) ∷ []
-
-abbrev pub keysOf : Body → Answer → List Answer
-keysOf b signed = ownForm (b .authority) ∷ signed ∷ nextForm (b .commitment) ∷ []
-
-abbrev pub witnessesOf : Head → Body → (ℕ → Answer) → List Answer
-witnessesOf h b receipted = mayCommit (h .prefix) (b .commitment) ∷ toadFits b (b .additions .count) ∷ receipted (b .additions .count) ∷ []
-
-pub incepts : (h : Head) (b : Body) (anchors : ℕ) (signed : Answer) (receipted : ℕ → Answer)
-    → firstRefusal (firstRefusal (startOf h b anchors) ∷ firstRefusal (keysOf b signed) ∷ firstRefusal (witnessesOf h b receipted) ∷ []) ≡ inception h b anchors signed receipted
-unfolding inception
-incepts h b anchors signed receipted = three-groups (startOf h b anchors) (keysOf b signed) (witnessesOf h b receipted)
 
 -- ---- a witness change, stage by stage: x found no fault, c is the change
 abbrev pub answerOf : Change → Answer

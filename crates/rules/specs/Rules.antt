@@ -14,7 +14,8 @@ use Rattle.number.specs.Number.{small, sameNumber, nextOf}
 use Rattle.answer.specs.declared.Answer.{Answer}
 use Rattle.answer.specs.Answer.{refused, accepted, refuseIf, refuseUnless, firstRefusal, passes}
 use Rattle.item.specs.declared.Item.{Item}
-use Rattle.item.specs.Item.{sameItem, isTransferable, transferableOf}
+use Rattle.item.specs.declared.Kind.the-variants.{Prefix}
+use Rattle.item.specs.Item.{sameItem, isTransferable, itemShape}
 use Rattle.items.specs.Items.{listed, packed}
 use Rattle.config.specs.declared.Config.{Config}
 use Rattle.config.specs.Config.{establishmentOnly}
@@ -67,13 +68,9 @@ abbrev pub identityOf : Head → Body → ℕ → Answer
 identityOf h b anchors =
     identity (h .prefix) (b .authority .keys) (b .authority .threshold) (b .commitment .next .count) (b .additions .count) anchors
 
--- 29: a non-transferable prefix that commits to next keys
+-- 29: a non-transferable prefix that commits to next keys. No code has this check: reserved/proofs/Laws has why.
 abbrev pub mayCommit : Item → Commitment → Answer
 mayCommit prefix c = refuseUnless (pick (eqb (c .next .count) 0) true (isTransferable prefix)) (refused 29 0 0)
-
--- the same by the prefix's code and the number of next digests
-abbrev pub mayCommitOf : ℕ → ℕ → Answer
-mayCommitOf code next = refuseUnless (pick (eqb next 0) true (transferableOf code)) (refused 29 0 0)
 
 abbrev pub toadFits : Body → ℕ → Answer
 toadFits b witnesses = witnessThreshold (b .toad) witnesses
@@ -91,6 +88,18 @@ inception h b anchors signed receipted =
     ∷ toadFits b (b .additions .count)
     ∷ receipted (b .additions .count)
     ∷ [])
+
+-- "3 for .. a byte outside its class", "before all others". The entries have looked at all classes before; a direct call with a
+-- prefix that is none gets 3 as well.
+abbrev pub prefixShape : Item → Answer
+prefixShape prefix = refused (itemShape Prefix prefix) 0 0
+
+abbrev pub ofPrefix : Item → Answer → Answer
+ofPrefix prefix x = firstRefusal (prefixShape prefix ∷ x ∷ [])
+
+-- how an inception begins: that, then 11
+abbrev pub genesisHead : Item → Number → Answer
+genesisHead prefix sn = firstRefusal (prefixShape prefix ∷ genesisSn sn ∷ [])
 
 -- ---- "18 removals, 18 additions, 20, 19 removals, 19 additions, 21, 22; 38; 30 or 31; 32": the receipts are asked of the
 -- resulting list

@@ -8,12 +8,13 @@ ghost use Rattle.item.specs.Item.{sameItem};
 ghost use Rattle.items.specs.Items.{listed, packed};
 ghost use Rattle.member_set.specs.Members.{changeFaults, updated};
 ghost use Rattle.evidence.specs.Evidence.{receiptedOn};
-ghost use Rattle.rules.specs.Rules.{follows, chainsOnto, nextFormOf, genesisSn, mayCommitOf, witnessStages, changed, mayInteract};
+ghost use Rattle.rules.specs.Rules.{follows, chainsOnto, nextFormOf, genesisSn, genesisHead, witnessStages, changed, mayInteract};
 use answer::Answer;
 use config::Config;
 use event::Head;
 use evidence::Evidence;
 use item::Item;
+use item::Kind;
 use items::Items;
 use member_set::Change;
 use number::Number;
@@ -72,7 +73,7 @@ pub fn next_form(next: usize, form: Answer) -> Answer
     form
 }
 
-pub fn genesis_sn(sn: Number) -> Answer
+fn genesis_sn(sn: Number) -> Answer
     ensures { λ r. ⌜ r ≡ genesisSn sn ⌝ }
 {
     let zero = number::from_u64(0);
@@ -86,17 +87,15 @@ pub fn genesis_sn(sn: Number) -> Answer
     }
 }
 
-// 29: a non-transferable prefix that commits to next keys.
-pub fn may_commit(code: u8, next: usize) -> Answer
-    ensures { λ r. ⌜ r ≡ mayCommitOf code next ⌝ }
+// 3 for a prefix that is none, then 11.
+pub fn genesis(prefix: Item, sn: Number) -> Answer
+    ensures { λ r. ⌜ r ≡ genesisHead prefix sn ⌝ }
 {
-    if next == 0 {
-        return answer::accept();
+    let fault = item::shape(prefix, Kind::Prefix);
+    if fault != 0 {
+        return answer::refuse(fault, 0, 0);
     }
-    if item::is_transferable(code) {
-        return answer::accept();
-    }
-    answer::refuse(29, 0, 0)
+    genesis_sn(sn)
 }
 
 pub fn unchanged(x: Answer) -> Change

@@ -1,18 +1,14 @@
 -- What a shape without a fault says: of thresholds, and of a state field by field. Assumes nothing.
-use mathlib.Core.Path.{_≡_, refl, sym, _∙_}
+use mathlib.Core.Path.{_≡_, refl}
 use mathlib.Core.Bool.{Bool, true, false}
-use mathlib.Core.List.{List, _∷_}
 use Prim.Native.Nat.{ℕ, _≤_}
 use native.Mathlib.Omega.{arith}
 use lib.Dec.{eqb, leb}
 use borrow.Author.Tests.{eqb-true, leb-true, eq-eqb, ne-eqb}
 use Rattle.lists.specs.Lists.{pick, both}
-use Rattle.lists.proofs.Facts.{both-true, clash}
-use Rattle.answer.specs.Answer.{firstFault}
-use Rattle.item.specs.declared.Kind.{Kind}
+use Rattle.lists.proofs.Facts.{both-true}
 use Rattle.item.specs.declared.Kind.the-variants.{Prefix, Key, Said}
-use Rattle.item.specs.declared.Item.{Item}
-use Rattle.item.specs.Item.{itemFits, itemShape}
+use Rattle.item.specs.Item.{itemFits}
 use Rattle.items.specs.Items as items
 use Rattle.config.specs.Config as config
 use Rattle.threshold.specs.declared.Threshold.{Threshold}
@@ -20,11 +16,7 @@ use Rattle.threshold.specs.Threshold.{isSimple, weightsIn, restZero, shapeOf}
 use Rattle.state.specs.declared.KeyState.{KeyState}
 use Rattle.shape.specs.Event.{ownShape, nextShape}
 use Rattle.shape.specs.State.{stateHead, stateTail, stateShape}
-
--- a pick between 0 and another number that gives 0
-picked : (b : Bool) (n : ℕ) → (n ≡ 0 → ⊥) → pick b 0 n ≡ 0 → b ≡ true
-picked true n ne e = refl
-picked false n ne e = absurd (ne e)
+use Rattle.shape.proofs.Laws.{picked, no-fault, item-fits}
 
 pick-in : (b : Bool) (x n : ℕ) → (n ≡ 0 → ⊥) → pick b x n ≡ 0 → (b ≡ true) × (x ≡ 0)
 pick-in true x n ne e = (refl, e)
@@ -74,18 +66,7 @@ module _ (t : Threshold) (e : shapeOf t ≡ 0) where
         rest = r .1;
       }
 
--- ---- fields in order: no fault is none in each
-pub no-fault : (n : ℕ) (ns : List ℕ) → firstFault (n ∷ ns) ≡ 0 → (n ≡ 0) × (firstFault ns ≡ 0)
-unfolding firstFault
-no-fault n ns e = by-test (eqb n 0) refl
-  where
-    by-test : (b : Bool) → eqb n 0 ≡ b → (n ≡ 0) × (firstFault ns ≡ 0)
-    by-test true p = (eqb-true n 0 p, rw p at e)
-    by-test false p = let z : n ≡ 0 = rw p at e in clash (sym (eq-eqb n 0 z) ∙ p)
-
-pub item-fits : (k : Kind) (x : Item) → itemShape k x ≡ 0 → itemFits k x ≡ true
-item-fits k x e = picked (itemFits k x) 3 no-3 e
-
+-- ---- a state
 pub record GoodState (s : KeyState) : Type 0 where
   pub prefix : itemFits Prefix (s .prefix) ≡ true
   pub said : itemFits Said (s .said) ≡ true

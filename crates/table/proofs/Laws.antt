@@ -2,13 +2,13 @@
 --     pick-in      a choice of two
 --     then-in      a check, and what is behind it where the check passes
 --     first-in     the checks in order; fault-in: the shape of fields in order
-use mathlib.Core.Path.{_≡_, refl, sym, _∙_}
+--     then-same    two lists that answer alike behind a check
+use mathlib.Core.Path.{_≡_, refl}
 use mathlib.Core.List.{List, [], _∷_}
 use mathlib.Core.Bool.{Bool, true, false}
 use Prim.Native.Nat.{ℕ}
 use lib.Dec.{eqb}
 use Rattle.lists.specs.Lists.{pick}
-use Rattle.lists.proofs.Facts.{clash}
 use Rattle.answer.specs.declared.Answer.{Answer}
 use Rattle.answer.specs.Answer.{passes, firstRefusal, firstFault}
 use Rattle.decoded.proofs.Gives.{Each}
@@ -34,12 +34,11 @@ unfolding firstFault
 fault-in P [] z e = z
 fault-in P (n ∷ ns) z e = pick-in P (eqb n 0) (firstFault ns) n (fault-in P ns z (e .1)) (e .0)
 
--- where two checks pass, the second does
-pub second-passes : (x y : Answer) → passes (firstRefusal (x ∷ y ∷ [])) ≡ true → passes y ≡ true
+-- a check with others behind it: where it passes, they may be answered in another way
+pub then-same : (x : Answer) (xs ys : List Answer) → (passes x ≡ true → firstRefusal xs ≡ firstRefusal ys) → firstRefusal (x ∷ xs) ≡ firstRefusal (x ∷ ys)
 unfolding firstRefusal
-second-passes x y e = by-test (passes x) (passes y) refl refl e
+then-same x xs ys f = by-test (passes x) f
   where
-    by-test : (t u : Bool) → passes x ≡ t → passes y ≡ u → passes (pick t (pick u (firstRefusal []) y) x) ≡ true → passes y ≡ true
-    by-test true true p q e = q
-    by-test true false p q e = e
-    by-test false u p q e = clash (sym e ∙ p)
+    by-test : (t : Bool) → (t ≡ true → firstRefusal xs ≡ firstRefusal ys) → pick t (firstRefusal xs) x ≡ pick t (firstRefusal ys) x
+    by-test true g = g refl
+    by-test false g = refl

@@ -1,3 +1,5 @@
 pub mod Laws
 pub mod Stages
+pub mod Entries
 pub mod Theorems
+pub mod Reserved

@@ -1,28 +1,24 @@
 -- The numbers that come from each stage of the judgement and of the fold. A property P of all numbers to 28, and from 30 to 38, is
--- one of every answer to an event: 29 never comes, since 15 comes first for code B, and every other prefix is transferable.
--- Assumes nothing.
-use mathlib.Core.Path.{_≡_, refl, sym}
+-- one of every answer to an event: 29 never comes (reserved/proofs/Laws). Assumes nothing.
+use mathlib.Core.Path.{_≡_}
 use mathlib.Core.List.{List, [], _∷_}
-use mathlib.Core.Bool.{Bool, true, false}
+use mathlib.Core.Bool.{Bool, true}
 use Prim.Native.Nat.{ℕ, _≤_}
 use native.Mathlib.Omega.{arith}
 use lib.Dec.{eqb, leb}
 use lib.ListN.{length, drop}
 use borrow.Author.Tests.{eqb-true}
 use Rattle.lists.specs.Lists.{pick, both, any, all, isAt}
-use Rattle.lists.proofs.Facts.{clash}
 use Rattle.number.specs.declared.Number.{Number}
 use Rattle.number.specs.declared.Successor.{Successor}
 use Rattle.number.specs.declared.Successor.the-variants.{Of, Last}
 use Rattle.number.specs.Number.{small, sameNumber, nextOf}
 use Rattle.answer.specs.declared.Answer.{Answer}
-use Rattle.answer.specs.Answer.{refused, accepted, refuseIf, refuseUnless, firstRefusal, firstFault, passes}
+use Rattle.answer.specs.Answer.{refused, accepted, refuseIf, refuseUnless, firstRefusal, firstFault}
 use Rattle.item.specs.declared.Item.{Item}
-use Rattle.item.specs.declared.Class.{Class}
-use Rattle.item.specs.declared.Class.the-variants.{NonTransferableKey, TransferableKey, Digest, Bad}
 use Rattle.item.specs.declared.Kind.{Kind}
 use Rattle.item.specs.declared.Kind.the-variants.{Prefix, Key, Said}
-use Rattle.item.specs.Item.{classOf, basicClass, transferableClass, fitsClass, basicOf, transferableOf, isTransferable, itemFits, itemShape, isZero, sameItem}
+use Rattle.item.specs.Item.{basicOf, transferableOf, isTransferable, itemFits, itemShape, isZero, sameItem}
 use Rattle.items.specs.declared.Items.{Items}
 use Rattle.items.specs.Items as items
 use Rattle.items.specs.Items.{listed}
@@ -50,12 +46,14 @@ use Rattle.state.specs.declared.Holder.{Holder}
 use Rattle.state.specs.State.{isHeld, mayMove}
 use Rattle.shape.specs.Event.{firstHead, laterHead, ownShape, nextShape, bodyShape, signedShape, shapeAs, eventShape}
 use Rattle.shape.specs.State.{stateHead, stateTail, stateShape, holderShape}
-use Rattle.snapshot.proofs.Shapes.{no-fault, item-fits}
-use Rattle.rules.specs.Rules.{follows, chainsOnto, ownForm, nextForm, genesisSn, identityOf, mayCommit, inception, newWitnesses, rewitness, rotation, interaction}
+use Rattle.shape.proofs.Laws.{good-prefix}
+use Rattle.rules.specs.Rules.{follows, chainsOnto, ownForm, nextForm, inception, newWitnesses, rewitness, rotation, interaction}
+use Rattle.reserved.specs.Reserved.{inceptionWithout29}
+use Rattle.reserved.proofs.Laws.{without-29}
 use Rattle.ingest.specs.Judgement.{onNothing, whereLive, onState, judgement, shaped, answerTo}
 use Rattle.fold.specs.Fold.{foldable, foldAnswer}
 use Rattle.decoded.proofs.Gives.{Each}
-use Rattle.table.proofs.Laws.{pick-in, then-in, first-in, fault-in, second-passes}
+use Rattle.table.proofs.Laws.{pick-in, then-in, first-in, fault-in}
 
 module _ (P : ℕ → Type 0) (low : (n : ℕ) → n ≤ 28 → P n) (high : (n : ℕ) → 30 ≤ n → n ≤ 38 → P n) where
   abbrev Good : Answer → Type 0
@@ -265,44 +263,25 @@ module _ (P : ℕ → Type 0) (low : (n : ℕ) → n ≤ 28 → P n) (high : (n 
       (all-in _ (sole-in prefix keys t, (pick-in Good (transferableOf (prefix .code)) accepted _ zero-in (nothing-in next witnesses anchors), tt)))
       zero-in
 
-  -- ---- 29 does not come: a prefix of good shape that passed 15 may commit
-  by-class : (k : Class) (none : Bool) (sole : Answer) (more : List Answer) → fitsClass Prefix k ≡ true
-      → passes (pick (basicClass k) (firstRefusal (sole ∷ pick (transferableClass k) accepted (firstRefusal (refuseUnless none (refused 15 0 0) ∷ more)) ∷ [])) accepted) ≡ true
-      → pick none true (transferableClass k) ≡ true
-  unfolding firstRefusal
-  by-class k true sole more fits p = refl
-  by-class NonTransferableKey false sole more fits p = clash (sym (second-passes sole (refused 15 0 0) p))
-  by-class TransferableKey false sole more fits p = refl
-  by-class Digest false sole more fits p = refl
-  by-class Bad false sole more fits p = clash (sym fits)
-
-  commits-in : (h : Head) (b : Body) (anchors : ℕ) → itemFits Prefix (h .prefix) ≡ true → passes (identityOf h b anchors) ≡ true → Good (mayCommit (h .prefix) (b .commitment))
-  unfolding identity
-  commits-in h b anchors fits p =
-      let may = by-class (classOf (h .prefix .code)) (eqb (b .commitment .next .count) 0) _ _ fits p in
-      rw may zero-in
-
   -- ---- the rules, whatever the signatures and receipts come to
   module _ (signed exposed : Answer) (receipted : ℕ → Answer) (isSigned : Good signed) (isExposed : Good exposed) (isReceipted : (n : ℕ) → Good (receipted n)) where
-    inception-in : (h : Head) (b : Body) (anchors : ℕ) → itemFits Prefix (h .prefix) ≡ true → Good (inception h b anchors signed receipted)
-    unfolding inception
-    inception-in h b anchors fits =
-        let sn = unless-in (sameNumber (h .sn) (small 0)) (record { number = 11; a = h .sn; b = small 0 }) (low 11 (omega arith)) in
-        let identified = identity-in (h .prefix) (b .authority .keys) (b .authority .threshold) (b .commitment .next .count) (b .additions .count) anchors in
-        then-in Good (genesisSn (h .sn)) _ sn (λ _. then-in Good (identityOf h b anchors) _ identified
-        (λ p. all-in _ (
-          faults-in 1 (listed (b .additions)),
+    -- 29 is not among the checks: where the prefix is one, document 01's list gives the same answer without it
+    without-in : (h : Head) (b : Body) (anchors : ℕ) → Good (inceptionWithout29 h b anchors signed receipted)
+    unfolding inceptionWithout29
+    without-in h b anchors =
+        all-in _ (
+          unless-in (sameNumber (h .sn) (small 0)) (record { number = 11; a = h .sn; b = small 0 }) (low 11 (omega arith)),
           (
-            own-form-in (b .authority),
+            identity-in (h .prefix) (b .authority .keys) (b .authority .threshold) (b .commitment .next .count) (b .additions .count) anchors,
             (
-              isSigned,
-              (
-                next-form-in (b .commitment),
-                (commits-in h b anchors fits p, (toad-in (b .toad) (b .additions .count), (isReceipted (b .additions .count), tt))),
-              ),
+              faults-in 1 (listed (b .additions)),
+              (own-form-in (b .authority), (isSigned, (next-form-in (b .commitment), (toad-in (b .toad) (b .additions .count), (isReceipted (b .additions .count), tt))))),
             ),
           ),
-        )))
+        )
+
+    inception-in : (h : Head) (b : Body) (anchors : ℕ) → itemFits Prefix (h .prefix) ≡ true → Good (inception h b anchors signed receipted)
+    inception-in h b anchors fits = rw (without-29 h b anchors signed receipted fits) (without-in h b anchors)
 
     rewitness-in : (current : List Item) (b : Body) → Good (rewitness current b receipted)
     unfolding rewitness
@@ -327,13 +306,9 @@ module _ (P : ℕ → Type 0) (low : (n : ℕ) → n ≤ 28 → P n) (high : (n 
         )
 
   -- ---- by the ilk
-  fits-in : (e : Event) → shapeAs Inception e ≡ 0 → itemFits Prefix (e .head .prefix) ≡ true
-  unfolding firstHead
-  fits-in e z = item-fits Prefix (e .head .prefix) (no-fault _ _ (no-fault _ _ z .0) .0)
-
   on-nothing-in : (k : Ilk) (e : Event) → shapeAs k e ≡ 0 → Good (onNothing k e)
   on-nothing-in Inception e z =
-      inception-in _ accepted _ (quorum-in 27 _ _ (low 27 (omega arith))) zero-in (λ n. receipts-in _ _) (e .head) (e .body) (e .anchors) (fits-in e z)
+      inception-in _ accepted _ (quorum-in 27 _ _ (low 27 (omega arith))) zero-in (λ n. receipts-in _ _) (e .head) (e .body) (e .anchors) (good-prefix e z)
   on-nothing-in Rotation e z = low 8 (omega arith)
   on-nothing-in Interaction e z = low 8 (omega arith)
   on-nothing-in DelegatedInception e z = low 6 (omega arith)

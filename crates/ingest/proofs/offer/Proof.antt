@@ -1,4 +1,4 @@
-use mathlib.Core.Path.{_∙_}
+use mathlib.Core.Path.{sym, _∙_}
 use borrow.Author.Needs.{needs}
 use Rattle.state.specs.State.{holding}
 use Rattle.ingest.specs.Judgement.{judgement, answerTo, nextState, offered}
@@ -27,7 +27,7 @@ unfolding offered answerTo
 returns-2 c = let a = c .before .before .before .before .before .args in c .refuse2 .ensures ∙ bad-event (a .before) (a .e) (judgement (a .before) (a .e)) (holding (nextState (a .before .state) (a .e))) _ (c .before .before .before .before .of-holder .ensures) (c .before .before .before .if1 .left) _ (c .before .before .of-event .ensures) (c .before .if2 .taken)
 
 judge-requires : tie.Need-judge-requires
-judge-requires c κs = search needs
+judge-requires c κs = sym (c .before .of-event .ensures) ∙ c .if2 .left
 
 returns-3 : tie.Need-returns-3
 unfolding offered answerTo

@@ -1,5 +1,7 @@
 use mathlib.Core.Path.{_∙_}
 use borrow.Author.Needs.{needs}
+use Rattle.event.specs.declared.Ilk.the-variants.{Inception}
+use Rattle.shape.proofs.Laws.{shape-as, good-prefix}
 use Rattle.ingest.proofs.Laws.{nothing-as}
 use Rattle.ingest.proofs.on_nothing.Statement.{statement}
 use Rattle.ingest.proofs.on_nothing.Tie as tie
@@ -8,7 +10,9 @@ enum-told : tie.Need-enum-told
 enum-told c = search needs
 
 offer-inception-requires : tie.Need-offer-inception-requires
-offer-inception-requires c κs = search needs
+offer-inception-requires c κs =
+    let start = c .before .before in
+    good-prefix (start .args .e) (shape-as (start .args .e) Inception (c .enum-told .given .1) ∙ start .pre)
 
 enum-told-2 : tie.Need-enum-told-2
 enum-told-2 c = search needs

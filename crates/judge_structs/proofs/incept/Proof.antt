@@ -2,7 +2,7 @@ use mathlib.Core.Path.{sym, _∙_}
 use borrow.Author.Needs.{needs}
 use Rattle.evidence.specs.Evidence.{signedOn, receiptedOn}
 use Rattle.answer.proofs.Laws.{here, past, last, clean-first}
-use Rattle.rules.proofs.Laws.{witnessesOf, incepts}
+use Rattle.reserved.proofs.Laws.{witnessesOf, incepts}
 use Rattle.judge_structs.proofs.incept.Statement.{statement}
 use Rattle.judge_structs.proofs.incept.Tie as tie
 
@@ -34,7 +34,7 @@ returns-3 c =
     let a = c .before .before .before .before .before .before .before .args in
     let signed = signedOn (a .b .authority .threshold) (a .v) in
     let receipted = receiptedOn (a .b .toad) (a .v) in
-    last _ _ (clean-first (witnessesOf (a .h) (a .b) receipted)) (c .inception-witnesses .ensures) ∙ sym (past _ _ _ (c .before .before .before .inception-keys .ensures) (c .before .if2 .left)) ∙ sym (past _ _ _ (c .before .before .before .before .before .before .inception-start .ensures) (c .before .before .before .before .if1 .left)) ∙ incepts (a .h) (a .b) (a .anchors) signed receipted
+    last _ _ (clean-first (witnessesOf (a .b) receipted)) (c .inception-witnesses .ensures) ∙ sym (past _ _ _ (c .before .before .before .inception-keys .ensures) (c .before .if2 .left)) ∙ sym (past _ _ _ (c .before .before .before .before .before .before .inception-start .ensures) (c .before .before .before .before .if1 .left)) ∙ incepts (a .h) (a .b) (a .anchors) signed receipted
 
 pub incept-spec : {M : Type 1} → statement M
 incept-spec =
