@@ -89,8 +89,8 @@ inception h b anchors signed receipted =
     ∷ receipted (b .additions .count)
     ∷ [])
 
--- "3 for .. a byte outside its class", "before all others". The entries have looked at all classes before; a direct call with a
--- prefix that is none gets 3 as well.
+-- "3 for .. a byte outside its class"; "Numbers 1 to 4 come before all others". The entries have looked at all classes by now; a
+-- direct call with a prefix that is none gets 3 as well.
 abbrev pub prefixShape : Item → Answer
 prefixShape prefix = refused (itemShape Prefix prefix) 0 0
 
