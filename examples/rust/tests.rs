@@ -151,5 +151,6 @@ fn names_are_told_alike() {
         assert_eq!(told, !direct, "{line}");
         assert_eq!(paper.matches(&format!("| {number} | {name} |")).count(), 1, "{name}");
     }
+    assert_eq!(header.lines().filter(|l| l.starts_with("  KEYSTATE_")).count(), NAMES.len() - 2);
     assert_eq!(paper.lines().filter(|l| l.starts_with("| ") && l.as_bytes()[2].is_ascii_digit()).count(), NAMES.len());
 }

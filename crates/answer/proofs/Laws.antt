@@ -46,6 +46,15 @@ unfolding firstRefusal
 tail-same [] ys zs e = e
 tail-same (x ∷ xs) ys zs e = ap (λ (r : Answer). pick (passes x) r x) (tail-same xs ys zs e)
 
+-- or only where the check before it passes
+pub then-same : (x : Answer) (xs ys : List Answer) → (passes x ≡ true → firstRefusal xs ≡ firstRefusal ys) → firstRefusal (x ∷ xs) ≡ firstRefusal (x ∷ ys)
+unfolding firstRefusal
+then-same x xs ys f = by-test (passes x) f
+  where
+    by-test : (t : Bool) → (t ≡ true → firstRefusal xs ≡ firstRefusal ys) → pick t (firstRefusal xs) x ≡ pick t (firstRefusal ys) x
+    by-test true g = g refl
+    by-test false g = refl
+
 -- ---- answers that pass without details
 abbrev pub Clean : Answer → Type 0
 Clean x = passes x ≡ true → x ≡ accepted

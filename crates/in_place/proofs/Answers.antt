@@ -20,8 +20,9 @@ use Rattle.state.specs.declared.Holder.{Holder}
 use Rattle.state.specs.State.{isHeld, mayMove, holding, seeded, genesis}
 use Rattle.empty.specs.Empty.{nothing}
 use Rattle.shape.specs.State.{holderShape}
-use Rattle.rules.specs.Rules.{inception, rotation, interaction, newWitnesses, changed}
+use Rattle.rules.specs.Rules.{rotation, interaction, newWitnesses, changed}
 use Rattle.ingest.specs.Judgement.{settled, turnedAway, judgement, onState as heldAnswer, onNothing, whereLive, nextAs, nextState, incepted, rotates, interacts}
+use Rattle.ingest.proofs.Laws.{clean-inception}
 use Rattle.history.proofs.Steps.{seed-is-genesis}
 use Rattle.layout.specs.Records.{Content, snapshot, contentOf, First, record-of, truncated, firstOf}
 use Rattle.decoded.proofs.Shapes.{decoded-shape}
@@ -88,10 +89,6 @@ pub clean-interacts : (s : KeyState) (e : Event) → Clean (interacts s e)
 unfolding interaction
 clean-interacts s e = clean-first _
 
-clean-incepted : (e : Event) → Clean (incepted e)
-unfolding inception
-clean-incepted e = clean-first _
-
 -- the list of a change that passed, and that it fits
 module _ (s : KeyState) (e : Event) (c : Change) (ec : c ≡ changed (rotates s e) (newWitnesses s (e .body))) (z : c .answer .number ≡ 0) where
   passed : passes (rotates s e) ≡ true
@@ -130,7 +127,7 @@ module _ (e : Event) (buf : List ℕ) (used : ℕ) (x : Answer) (ex : x ≡ ince
   nothing-took =
       let same : genesis (e .head) (e .body) ≡ seeded (e .head) (e .body) = sym (seed-is-genesis e begins) in
       ap (λ (s : KeyState). settledIn buf used (took s)) same
-      ∙ took-left buf used nothing (seeded (e .head) (e .body)) (incepted e) (clean-incepted e) (sym (ap (λ (y : Answer). y .number) ex) ∙ z)
+      ∙ took-left buf used nothing (seeded (e .head) (e .body)) (incepted e) (clean-inception _ _ _ _ _) (sym (ap (λ (y : Answer). y .number) ex) ∙ z)
 
 -- ---- a snapshot
 module _ (buf : List ℕ) (used : ℕ) (s k : KeyState) where

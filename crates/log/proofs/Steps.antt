@@ -80,7 +80,7 @@ abbrev pub ShapedFirst : First → Type 0
 ShapedFirst (record-of mark c next) = Shaped c
 ShapedFirst truncated = Unit
 
-first-shaped : (s : List ℕ) → ShapedFirst (firstOf s)
+pub first-shaped : (s : List ℕ) → ShapedFirst (firstOf s)
 unfolding firstOf
 first-shaped s = by-test (both (leb 4 (length s)) (leb (4 + bodyLength s) (length s)))
   where

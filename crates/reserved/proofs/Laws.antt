@@ -14,7 +14,7 @@ use Rattle.lists.specs.Lists.{pick, both}
 use Rattle.lists.proofs.Facts.{clash}
 use Rattle.answer.specs.declared.Answer.{Answer}
 use Rattle.answer.specs.Answer.{refused, accepted, refuseUnless, firstRefusal, passes}
-use Rattle.answer.proofs.Laws.{clean-first, last, grouped, tail-same, three-groups}
+use Rattle.answer.proofs.Laws.{passed, then-same, clean-first, last, grouped, tail-same, three-groups}
 use Rattle.item.specs.declared.Class.{Class}
 use Rattle.item.specs.declared.Class.the-variants.{NonTransferableKey, TransferableKey, Digest, Bad}
 use Rattle.item.specs.declared.Kind.the-variants.{Prefix}
@@ -32,12 +32,13 @@ use Rattle.reserved.specs.Reserved.{inceptionWithout29}
 abbrev pub TwelveToFifteen : ℕ → Type 0
 TwelveToFifteen n = (12 ≤ n) × (n ≤ 15)
 
--- the sole key, then 15 of a prefix that commits to next keys
+-- the sole key's checks, by what they look at
+abbrev sole : Bool → Bool → Bool → ℕ → Answer
+sole one simple same keys = firstRefusal (refuseUnless one (refused 12 keys 0) ∷ refuseUnless simple (refused 13 0 0) ∷ refuseUnless same (refused 14 0 0) ∷ [])
+
+-- then 15 of a prefix that commits to next keys
 sole-then-15 : (one simple same : Bool) (keys : ℕ) (more : List Answer)
-    → TwelveToFifteen (firstRefusal (
-    firstRefusal (refuseUnless one (refused 12 keys 0) ∷ refuseUnless simple (refused 13 0 0) ∷ refuseUnless same (refused 14 0 0) ∷ [])
-    ∷ firstRefusal (refused 15 0 0 ∷ more)
-    ∷ []) .number)
+    → TwelveToFifteen (firstRefusal (sole one simple same keys ∷ firstRefusal (refused 15 0 0 ∷ more) ∷ []) .number)
 unfolding firstRefusal
 sole-then-15 false simple same keys more = (omega arith, omega arith)
 sole-then-15 true false same keys more = (omega arith, omega arith)
@@ -47,10 +48,7 @@ sole-then-15 true true true keys more = (omega arith, omega arith)
 -- by the class of the prefix, and whether next is empty: only B with next keys is refused by 29's check
 by-class : (k : Class) (none : Bool) (one simple same : Bool) (keys : ℕ) (more : List Answer) → fitsClass Prefix k ≡ true
     → passes (refuseUnless (pick none true (transferableClass k)) (refused 29 0 0)) ≡ false
-    → TwelveToFifteen (pick (basicClass k) (firstRefusal (
-    firstRefusal (refuseUnless one (refused 12 keys 0) ∷ refuseUnless simple (refused 13 0 0) ∷ refuseUnless same (refused 14 0 0) ∷ [])
-    ∷ pick (transferableClass k) accepted (firstRefusal (refuseUnless none (refused 15 0 0) ∷ more))
-    ∷ [])) accepted .number)
+    → TwelveToFifteen (pick (basicClass k) (firstRefusal (sole one simple same keys ∷ pick (transferableClass k) accepted (firstRefusal (refuseUnless none (refused 15 0 0) ∷ more)) ∷ [])) accepted .number)
 by-class k true one simple same keys more fits e = clash e
 by-class NonTransferableKey false one simple same keys more fits e = sole-then-15 one simple same keys more
 by-class TransferableKey false one simple same keys more fits e = clash e
@@ -80,12 +78,8 @@ module _ (h : Head) (b : Body) (anchors : ℕ) (fits : itemFits Prefix (h .prefi
 
 -- a check that has nothing to say where the second one passes
 silent : (x y c : Answer) (xs ys : List Answer) → (passes y ≡ true → c ≡ accepted) → firstRefusal (x ∷ y ∷ (xs ++ (c ∷ ys))) ≡ firstRefusal (x ∷ y ∷ (xs ++ ys))
-unfolding firstRefusal
-silent x y c xs ys f = ap (λ (r : Answer). pick (passes x) r x) (by-test (passes y) f)
-  where
-    by-test : (t : Bool) → (t ≡ true → c ≡ accepted) → pick t (firstRefusal (xs ++ (c ∷ ys))) y ≡ pick t (firstRefusal (xs ++ ys)) y
-    by-test true g = tail-same xs (c ∷ ys) ys (ap (λ (d : Answer). firstRefusal (d ∷ ys)) (g refl))
-    by-test false g = refl
+silent x y c xs ys f =
+    then-same x _ _ (λ _. then-same y _ _ (λ p. tail-same xs (c ∷ ys) ys (ap (λ (d : Answer). firstRefusal (d ∷ ys)) (f p) ∙ passed accepted ys refl)))
 
 module _ (h : Head) (b : Body) (anchors : ℕ) (signed : Answer) (receipted : ℕ → Answer) where
   pub without-29 : itemFits Prefix (h .prefix) ≡ true → inception h b anchors signed receipted ≡ inceptionWithout29 h b anchors signed receipted

@@ -1,4 +1,4 @@
--- Request 14: the list of checks for an inception as the code has it. rules/specs/Rules has document 01's, with 29 in its place.
+-- Request 14: document 01's list of checks for an inception, less 29. rules/specs/Rules has the whole of it.
 use Prim.Native.Nat.{ℕ}
 use mathlib.Core.List.{[], _∷_}
 use Rattle.answer.specs.declared.Answer.{Answer}

@@ -1,12 +1,12 @@
 -- A property of all numbers to 28, and from 30 to 38, is one of every entry's answers; with 41, also of saving and of the calls on
 -- a state in a buffer. Assumes nothing.
 use mathlib.Core.List.{List, [], _∷_}
-use Prim.Native.Nat.{ℕ, _≤_, _+_}
+use Prim.Native.Nat.{ℕ, _≤_}
 use mathlib.Core.Bool.{Bool}
 use native.Mathlib.Omega.{arith}
 use lib.Dec.{eqb, leb}
-use lib.ListN.{length, take, drop}
-use Rattle.lists.specs.Lists.{pick, both}
+use lib.ListN.{length, take}
+use Rattle.lists.specs.Lists.{pick}
 use Rattle.runs.specs.Runs.{answersOf}
 use Rattle.answer.specs.declared.Answer.{Answer}
 use Rattle.answer.specs.Answer.{refused, accepted, passes}
@@ -22,24 +22,17 @@ use Rattle.fold.specs.Fold.{folded}
 use Rattle.decoded.specs.Decoded.{Shaped}
 use Rattle.decoded.proofs.Shapes.{decoded-shape}
 use Rattle.decoded.proofs.Gives.{Each}
-use Rattle.layout.specs.Records.{Content, event, snapshot, refusal, contentOf, First, record-of, truncated, firstOf, markOf, bodyLength}
+use Rattle.layout.specs.Records.{Content, event, snapshot, refusal, contentOf, First, record-of, truncated, firstOf}
 use Rattle.receive.specs.Received.{taken, unlessBad, bodyTaken, firstTaken, received}
 use Rattle.fold_record.specs.Folded.{foldTaken, bodyFolded}
 use Rattle.writer.specs.Writing.{over}
 use Rattle.snapshot.specs.Saved.{saved, encoded}
 use Rattle.log.specs.Log.{after, answers}
-use Rattle.log.proofs.Steps.{ShapedFirst}
+use Rattle.log.proofs.Steps.{ShapedFirst, first-shaped}
 use Rattle.found.specs.Kept.{Kept, none, one, alone, snapshotFirst, stateIn, keptIn}
 use Rattle.in_place.specs.Calls.{Left, untouched, afterSaving, settledIn, onState, offeredIn, bodyOfferedIn, foldedFirst, foldedIn, bodyFoldedIn, asked}
 use Rattle.table.proofs.Laws.{pick-in}
 use Rattle.table.proofs.Stages.{holder-shape-in, answer-in, fold-answer-in}
-
-pub first-shaped : (s : List ℕ) → ShapedFirst (firstOf s)
-unfolding firstOf
-first-shaped s =
-    let body = take (bodyLength s) (drop 4 s) in
-    pick-in ShapedFirst (both (leb 4 (length s)) (leb (4 + bodyLength s) (length s))) (record-of (markOf s) (contentOf (markOf s) body) (4 + bodyLength s)) truncated
-    (decoded-shape (markOf s) body) tt
 
 module _ (P : ℕ → Type 0) (low : (n : ℕ) → n ≤ 28 → P n) (high : (n : ℕ) → 30 ≤ n → n ≤ 38 → P n) where
   -- ---- structs

@@ -2,7 +2,6 @@
 --     pick-in      a choice of two
 --     then-in      a check, and what is behind it where the check passes
 --     first-in     the checks in order; fault-in: the shape of fields in order
---     then-same    two lists that answer alike behind a check
 use mathlib.Core.Path.{_≡_, refl}
 use mathlib.Core.List.{List, [], _∷_}
 use mathlib.Core.Bool.{Bool, true, false}
@@ -33,12 +32,3 @@ pub fault-in : (P : ℕ → Type 0) (ns : List ℕ) → P 0 → Each P ns → P 
 unfolding firstFault
 fault-in P [] z e = z
 fault-in P (n ∷ ns) z e = pick-in P (eqb n 0) (firstFault ns) n (fault-in P ns z (e .1)) (e .0)
-
--- a check with others behind it: where it passes, they may be answered in another way
-pub then-same : (x : Answer) (xs ys : List Answer) → (passes x ≡ true → firstRefusal xs ≡ firstRefusal ys) → firstRefusal (x ∷ xs) ≡ firstRefusal (x ∷ ys)
-unfolding firstRefusal
-then-same x xs ys f = by-test (passes x) f
-  where
-    by-test : (t : Bool) → (t ≡ true → firstRefusal xs ≡ firstRefusal ys) → pick t (firstRefusal xs) x ≡ pick t (firstRefusal ys) x
-    by-test true g = g refl
-    by-test false g = refl

@@ -14,6 +14,7 @@ use lib.ListN.{length}
 use Rattle.lists.specs.Lists.{pick}
 use Rattle.answer.specs.declared.Answer.{Answer}
 use Rattle.answer.specs.Answer.{refused, firstRefusal}
+use Rattle.answer.proofs.Laws.{then-same}
 use Rattle.event.specs.declared.Ilk.{Ilk}
 use Rattle.event.specs.declared.Ilk.the-variants.{Inception, Rotation, Interaction, DelegatedInception, DelegatedRotation}
 use Rattle.event.specs.declared.Event.{Event}
@@ -35,7 +36,6 @@ use Rattle.log.proofs.Steps.{records-shaped}
 use Rattle.in_place.specs.Calls.{offeredIn, bodyOfferedIn, foldedIn, bodyFoldedIn, asked}
 use Rattle.table.specs.Table.{Never29}
 use Rattle.table.specs.Without29.{onNothingWithout29, offeredWithout29}
-use Rattle.table.proofs.Laws.{then-same}
 use Rattle.table.proofs.Entries.{offered-in, ingested-in, folded-in, received-in, answers-in, asked-in, saved-in, offer-in, offer-body-in, fold-in, fold-body-in}
 
 abbrev Not29 : ℕ → Type 0

@@ -12,6 +12,6 @@ InTable x = x .number ≤ 38
 abbrev pub InTableOfSaving : Answer → Type 0
 InTableOfSaving x = InTable x ⊎ (x .number ≡ 41)
 
--- "Keep the number reserved" (request 14): 29 stays in the table, and nothing is ever answered by it
+-- "Keep the number reserved" (request 14): 29 stays in the table, and no event, record or call on a state gets it
 abbrev pub Never29 : Answer → Type 0
 Never29 x = x .number ≡ 29 → ⊥
