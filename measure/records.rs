@@ -12,12 +12,22 @@ pub struct Size {
     pub change: usize,
     /// The prefix is the first key, not a digest.
     pub basic: bool,
-    /// Signatures agree in all but their last byte.
-    pub alike: bool,
+    pub likeness: Likeness,
 }
 
-pub const ONE: Size = Size { keys: 1, weighted: false, signatures: 1, receipts: 0, witnesses: 0, change: 0, basic: false, alike: false };
-pub const WIDEST: Size = Size { keys: 16, weighted: true, signatures: 48, receipts: 48, witnesses: 16, change: 16, basic: false, alike: false };
+/// How like each other the signatures are, and the receipts.
+#[derive(Clone, Copy, PartialEq)]
+pub enum Likeness {
+    /// No two are copies, and their bytes look random, as those of real ones do.
+    Apart,
+    /// No two are copies, but they agree in all but their last byte.
+    Alike,
+    /// All are copies of the first: one place signs, and its weight and one receipt are enough.
+    Copies,
+}
+
+pub const ONE: Size = Size { keys: 1, weighted: false, signatures: 1, receipts: 0, witnesses: 0, change: 0, basic: false, likeness: Likeness::Apart };
+pub const WIDEST: Size = Size { keys: 16, weighted: true, signatures: 48, receipts: 48, witnesses: 16, change: 16, basic: false, likeness: Likeness::Apart };
 
 pub fn item(code: u8, number: usize) -> Item {
     let mut item = [0x55; 33];
@@ -36,11 +46,15 @@ pub fn prefix(z: Size) -> Item {
 
 /// One clause of weights 1/8: checked sums stay within 64 bits for 16 of them.
 pub fn threshold(z: Size) -> Threshold {
-    if z.weighted { Threshold::Weighted(vec![vec![(1, 8); z.keys]]) } else { Threshold::Simple(z.keys as u64) }
+    let weight = if z.likeness == Likeness::Copies { (1, 1) } else { (1, 8) };
+    if z.weighted { Threshold::Weighted(vec![vec![weight; z.keys]]) } else { Threshold::Simple(z.keys as u64) }
 }
 
-/// No two are copies. Their bytes look random, as those of real ones do; or they differ at their end only.
-pub fn signatures(count: usize, places: usize, ondex: bool, alike: bool) -> Vec<Signature> {
+pub fn toad(z: Size) -> u32 {
+    if z.likeness == Likeness::Copies { z.witnesses.min(1) as u32 } else { z.witnesses as u32 }
+}
+
+pub fn signatures(count: usize, places: usize, ondex: bool, likeness: Likeness) -> Vec<Signature> {
     let mut seed: u64 = 88172645463325252;
     let mut random = || {
         seed ^= seed << 13;
@@ -50,12 +64,12 @@ pub fn signatures(count: usize, places: usize, ondex: bool, alike: bool) -> Vec<
     };
     let one = |n: usize| {
         let mut raw = [0; 64];
-        if alike {
-            raw[63] = n as u8;
-        } else {
-            raw.fill_with(&mut random);
+        let mut place = (n % places) as u32;
+        match likeness {
+            Likeness::Apart => raw.fill_with(&mut random),
+            Likeness::Alike => raw[63] = n as u8,
+            Likeness::Copies => place = 0,
         }
-        let place = (n % places) as u32;
         Signature { code: b'A', index: place, ondex: ondex.then_some(place), raw, verified: true, matches: true }
     };
     if places == 0 { vec![] } else { (0..count).map(one).collect() }
@@ -71,11 +85,11 @@ pub fn inception(z: Size) -> Record {
         next: items(b'E', 40, z.keys),
         next_threshold: threshold(z),
         witnesses: items(b'B', 0, z.witnesses),
-        toad: z.witnesses as u32,
+        toad: toad(z),
         config: vec![],
         anchors: 0,
-        signatures: signatures(z.signatures, z.keys, false, z.alike),
-        receipts: signatures(z.receipts, z.witnesses, false, z.alike),
+        signatures: signatures(z.signatures, z.keys, false, z.likeness),
+        receipts: signatures(z.receipts, z.witnesses, false, z.likeness),
     })
 }
 
@@ -93,10 +107,10 @@ pub fn rotation(z: Size, sn: usize) -> Record {
         next_threshold: threshold(z),
         additions: items(b'B', new, z.change),
         removals: items(b'B', old, z.change),
-        toad: z.witnesses as u32,
+        toad: toad(z),
         anchors: 0,
-        signatures: signatures(z.signatures, z.keys, true, z.alike),
-        receipts: signatures(z.receipts, z.witnesses, false, z.alike),
+        signatures: signatures(z.signatures, z.keys, true, z.likeness),
+        receipts: signatures(z.receipts, z.witnesses, false, z.likeness),
     })
 }
 
@@ -107,7 +121,7 @@ pub fn interaction(z: Size, sn: usize) -> Record {
         said: item(b'E', sn + 1),
         prior: item(b'E', sn),
         anchors: 1,
-        signatures: signatures(z.signatures, z.keys, false, z.alike),
-        receipts: signatures(z.receipts, z.witnesses, false, z.alike),
+        signatures: signatures(z.signatures, z.keys, false, z.likeness),
+        receipts: signatures(z.receipts, z.witnesses, false, z.likeness),
     })
 }

@@ -1,30 +1,11 @@
 /* Prints how deep the stack of one call goes, for each call and kind of record at the greatest size that a record can have.
- * The stack is painted before a call; what is no longer painted after it was used. Run it by measure/stack. */
+ * Run it by measure/stack. */
 #include <stdint.h>
 #include <stdio.h>
 #include <string.h>
 
-#include "keystate.h"
-
-enum { AREA = 200 * 1024, PAINT = 0xa5 };
-
-static uint8_t input[KEYSTATE_RECORD_BYTES];
-static size_t length;
-
-static void put(uint64_t value, int width) {
-  while (width-- > 0) input[length++] = (uint8_t)(value >> (8 * width));
-}
-
-static void put_item(char code, uint8_t which) {
-  put((uint8_t)code, 1);
-  memset(input + length, which, 32);
-  length += 32;
-}
-
-static void put_items(char code, int first, int count) {
-  put((uint64_t)count, 1);
-  for (int i = 0; i < count; i++) put_item(code, (uint8_t)(first + i));
-}
+#include "paint.h"
+#include "records.h"
 
 /* sixteen clauses of one weight, 1/1 */
 static void put_threshold(void) {
@@ -34,40 +15,12 @@ static void put_threshold(void) {
   for (int i = 0; i < 32; i++) put(1, 8);
 }
 
-static void begin(const char *mark, uint64_t sn, uint8_t said) {
-  length = 0;
-  put((uint8_t)mark[0], 1);
-  put((uint8_t)mark[1], 1);
-  put(0, 2);
-  put_item('E', 1);
-  put(0, 8);
-  put(sn, 8);
-  put_item('E', said);
-}
-
-/* 48 signatures on 16 places, no two alike */
-static void put_signatures(void) {
-  put(48, 1);
-  for (int i = 0; i < 48; i++) {
-    put('A', 1);
-    put((uint64_t)i % 16, 4);
-    put(1, 1);
-    put((uint64_t)i % 16, 4);
-    memset(input + length, i, 64);
-    length += 64;
-    put(1, 1);
-    put(1, 1);
-  }
-}
-
-static void finish(int events) {
-  if (events) {
-    put(0, 4);
-    put_signatures();
-    put_signatures();
-  }
-  input[2] = (uint8_t)((length - 4) >> 8);
-  input[3] = (uint8_t)(length - 4);
+/* 48 signatures and 48 receipts */
+static void sign(void) {
+  put(0, 4);
+  put_signatures(48, 16, APART);
+  put_signatures(48, 16, APART);
+  finish();
 }
 
 static void put_keys(int first) {
@@ -84,7 +37,7 @@ static void inception(void) {
   put(16, 4);
   put(8, 1);
   for (int i = 0; i < 8; i++) put(3, 1);
-  finish(1);
+  sign();
 }
 
 static void rotation(void) {
@@ -94,13 +47,13 @@ static void rotation(void) {
   put_items('B', 200, 16);
   put_items('B', 150, 16);
   put(16, 4);
-  finish(1);
+  sign();
 }
 
 static void interaction(void) {
   begin("IX", 1, 2);
   put_item('E', 1);
-  finish(1);
+  sign();
 }
 
 static void snapshot(void) {
@@ -114,35 +67,28 @@ static void snapshot(void) {
   put(1, 1);
   put(0, 16);
   put_item('E', 1);
-  finish(0);
+  finish();
 }
 
 static uint8_t state[KEYSTATE_STATE_BYTES];
 static size_t used;
 static uint64_t details[4];
-static uintptr_t low;
 static size_t deepest = 0;
-
-static __attribute__((noinline)) void paint(void) {
-  volatile uint8_t area[AREA];
-  for (size_t i = 0; i < AREA; i++) area[i] = PAINT;
-  low = (uintptr_t)area;
-}
+static int wrong = 0;
 
 static uint8_t offer(void) { return keystate_offer(state, sizeof state, &used, input, length, details); }
 static uint8_t fold(void) { return keystate_fold(state, sizeof state, &used, input, length, details); }
 static uint8_t ask(void) { return keystate_ask(state, used, details); }
 
-static __attribute__((noinline)) void measure(const char *what, uint8_t expected, uint8_t (*call)(void)) {
-  volatile uint8_t here = 0;
-  paint();
-  uint8_t number = call();
-  const volatile uint8_t *at = (const volatile uint8_t *)low;
-  while (*at == PAINT) at++;
-  size_t depth = (size_t)(&here - at);
-  printf("%-44s answer %2u, stack %6zu\n", what, number, depth);
-  if (number != expected) printf("  expected %u\n", expected);
-  if (depth > deepest) deepest = depth;
+static void measure(const char *what, uint8_t expected, uint8_t (*call)(void)) {
+  uint8_t number;
+  size_t used_up = depth(call, &number);
+  printf("%-44s answer %2u, stack %6zu\n", what, number, used_up);
+  if (number != expected) {
+    printf("  expected %u\n", expected);
+    wrong = 1;
+  }
+  if (used_up > deepest) deepest = used_up;
 }
 
 int main(void) {
@@ -177,5 +123,5 @@ int main(void) {
   size_t buffers = sizeof state + sizeof input + sizeof details + sizeof used;
   printf("deepest stack %zu\nbuffers: state %zu, record %zu, details and length %zu\nin all %zu bytes: %.1f KiB, of 32 that we hold it to\n", deepest, sizeof state, sizeof input,
          sizeof details + sizeof used, deepest + buffers, (double)(deepest + buffers) / 1024);
-  return deepest + buffers > 32 * 1024 || deepest > KEYSTATE_STACK_BYTES;
+  return wrong || deepest + buffers > 32 * 1024 || deepest > KEYSTATE_STACK_BYTES;
 }

@@ -147,7 +147,15 @@ fn shapes(rounds: usize) {
     println!("Nanoseconds a call: the median of {rounds} rounds (the least).\n");
     println!("| Shape | read: ours | Rust | ratio | judge: ours | Rust | ratio | device's call | the Rust's whole | ratio |");
     println!("|---|---|---|---|---|---|---|---|---|---|");
-    for (name, size) in [("one key", ONE), ("one key, its own prefix", Size { basic: true, ..ONE }), ("widest", WIDEST), ("widest, alike", Size { alike: true, ..WIDEST })] {
+    let widest = |likeness| Size { likeness, ..WIDEST };
+    let sizes = [
+        ("one key", ONE),
+        ("one key, its own prefix", Size { basic: true, ..ONE }),
+        ("widest", WIDEST),
+        ("widest, alike", widest(Likeness::Alike)),
+        ("widest, copies", widest(Likeness::Copies)),
+    ];
+    for (name, size) in sizes {
         for (kind, before, record) in [("IC", None, inception(size)), ("RO", Some(size), rotation(size, 1)), ("IX", Some(size), interaction(size, 1))] {
             let t = shape(rounds, before, &record);
             println!("| {name}, {kind} | {} | {} | {} |", pair(t[0], t[1]), pair(t[2], t[3]), pair(t[5], t[4]));

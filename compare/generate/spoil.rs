@@ -65,7 +65,7 @@ fn signatures(rng: &mut Rng, list: &mut Vec<Signature>, places: usize, ondexes: 
         let places = places as u32;
         rng.pick(&[places, places.saturating_sub(1), places + 1, 0, 16, 256, 65_536, u32::MAX, 1 << 31])
     };
-    match rng.below(20) {
+    match rng.below(22) {
         0 => list.clear(),
         1 | 2 if !list.is_empty() => drop(list.remove(at)),
         3 | 4 if !list.is_empty() => list[at].verified = false,
@@ -126,6 +126,22 @@ fn signatures(rng: &mut Rng, list: &mut Vec<Signature>, places: usize, ondexes: 
         18 => {
             for one in list.iter_mut() {
                 one.ondex = Some(one.index);
+            }
+        }
+        19 | 20 if !list.is_empty() => {
+            // Up to the limit, copies of any before them, of copies too, among first ones that seldom verify.
+            let strangers = rng.pick(&[0, 50, 80]);
+            list.iter_mut().for_each(|one| one.verified = rng.one_in(3));
+            while list.len() < 48 {
+                let from = if rng.one_in(2) { 0 } else { list.len().saturating_sub(8) };
+                let mut one = list[from + rng.below(list.len() - from)].clone();
+                one.verified = true;
+                one.matches = rng.one_in(2);
+                if rng.percent(strangers) {
+                    one.raw[rng.below(64)] ^= 1 << rng.below(8);
+                    one.verified = rng.one_in(3);
+                }
+                list.push(one);
             }
         }
         _ => rng.shuffle(list),

@@ -1,4 +1,4 @@
--- The marked lines of document 01 hold, all together: antt computes them. Assumes nothing.
+-- The marked lines of document 01 hold, all together, and so does the table of copies: antt computes them. Assumes nothing.
 use mathlib.Core.Path.{refl}
 use Rattle.lists.specs.Lists.{any, all, filter, sameNumbers}
 use Rattle.number.specs.Number.{nextOf}
@@ -11,6 +11,7 @@ use Rattle.toad.specs.Toad.{ampleOf}
 use Rattle.member_set.specs.Members.{joined, updated}
 use Rattle.verification.specs.Verification.{sameWire, firsts, verifiedAt, exposedAt}
 use Rattle.examples.specs.Starred.{Starred}
+use Rattle.examples.specs.Copies.{Copies}
 
 pub starred : Starred
 unfolding any all filter sameNumbers nextOf sameItem chosen setOf plus weigh shapeOf sum runs sumFrom judgedFrom judged risingAfter insert sortedUnique satisfiedBySortedUnique ampleOf joined updated sameWire firsts verifiedAt exposedAt
@@ -30,4 +31,21 @@ starred =
       exposed-bits = refl;
       copies = refl;
       copies-bits = refl;
+    }
+
+pub copies : Copies
+unfolding any sameNumbers chosen sameWire firsts verifiedAt
+copies =
+    record {
+      copy = refl;
+      digest-verdict = refl;
+      copy-of-a-copy = refl;
+      among-others = refl;
+      first-yes = refl;
+      code = refl;
+      index = refl;
+      no-ondex = refl;
+      ondex = refl;
+      first-byte = refl;
+      last-byte = refl;
     }

@@ -1,141 +1,119 @@
--- The counting step over a list: after all elements the tally is the list, packed, and its places; so what is concluded is the whole answer.
--- Assumes nothing.
---     through, one-more, at-end   a list taken element by element
---     counted-, pushed-           the ways through the step
---     step-is, stepped-is         one more element, and all of them
---     conclude-                   what is concluded from a tally
---     too-many, few-enough        the whole answer, above 48 elements and not
---     as-by-value                 it is authority's `receipted_by` on a list of the right shape
-use mathlib.Core.Path.{_≡_, refl, sym, ap, _∙_}
+-- The counting step over a list: after i elements the tally is that of the first i, so what is concluded after all is the whole answer. Assumes nothing.
+--     fits-, step-, conclude-   the ways through the by-value functions
+--     tallyAt, tally-none       the tally of the first i elements, and of none
+--     Unlike, unlike-           none before position j is a copy of the element at i: one step of the search
+--     copy-step, first-step     the step takes the tally of the first i to that of one more, for a copy and for a first one
+--     too-many, few-enough      the whole answer, above 48 elements and not
+--     as-by-value               it is authority's `receipted_by` on a list of the right shape
+use mathlib.Core.Path.{_≡_, refl, sym, ap, subst, _∙_}
 use mathlib.Core.Bool.{Bool, true, false}
-use mathlib.Core.List.{List, [], _∷_, _++_, append-nil, append-assoc}
-use Prim.Native.Nat.{ℕ, suc, zero, _+_, _-_, _<_, _≤_}
-use native.Mathlib.Nat.{le-antisymm}
+use mathlib.Core.List.{List, [], _∷_, _++_}
+use Prim.Native.Nat.{ℕ, _+_, _<_, _≤_}
+use native.Mathlib.Nat.{le-refl, le-antisymm}
 use native.Mathlib.Numerals.{add-one}
 use native.Mathlib.Omega.{arith}
-use lib.Dec.{eqb}
-use lib.ListN.{length, length-append, length-take, drop, set, replicate, getD}
-use lib.Seq.{drop-cons, drop-length}
-use borrow.Author.Tests.{le-leb, lt-leb, eq-eqb, ne-eqb}
-use Rattle.lists.specs.Lists.{pick, any, all, sameNumbers}
-use Rattle.lists.proofs.Padding.{padded-used, padded-unused, padded-push}
+use lib.ListN.{length, length-take, take, getD}
+use lib.Seq.{take-suc, take-all}
+use borrow.Author.Tests.{le-leb, lt-leb, lt-ltb, le-ltb}
+use Rattle.lists.specs.Lists.{both, any, all}
 use Rattle.answer.specs.Answer.{refused}
 use Rattle.places.specs.Places.{placesIn}
 use Rattle.places.proofs.Laws.{places-set}
+use Rattle.firsts.specs.Firsts.{hasFirst, withFirst}
 use Rattle.verification.specs.declared.Siger.{Siger}
 use Rattle.verification.specs.declared.Sigers.{Sigers}
 use Rattle.verification.specs.declared.Counted.{Counted}
-use Rattle.verification.specs.Verification.{signatures, sameWire, countedWith, countedOf, verifiedAt, noSiger, ondexFits, zeroSiger, packedSigers, shapeOf}
-use Rattle.verification.proofs.Laws.{counted-copy, counted-more, counted-none, good}
+use Rattle.verification.specs.Verification.{signatures, sameWire, countedWith, countedOf, verifiedAt, ondexFits, shapeOf}
+use Rattle.verification.proofs.Laws.{blank, counted-none, next-copy, next-more, firstsIn, firsts-none, none-before, firsts-kept, firsts-with, list-copy, list-other, good}
 use Rattle.items.specs.Items.{listed}
 use Rattle.authority.specs.declared.Witnessing.{Witnessing}
-use Rattle.authority.specs.Authority.{receipts, receiptedBy, witnessed}
+use Rattle.authority.specs.Authority.{receipts, witnessed}
 use Rattle.lent_receipts.specs.declared.Tally.{Tally}
-use Rattle.lent_receipts.specs.Receipted.{receiptedFrom, countedNext, pushed, stepOf, noneYet, concluded}
+use Rattle.lent_receipts.specs.Receipted.{receiptedFrom, stepOf, noneYet, concluded}
 
--- ---- a list taken element by element, each handed to a step: as the walk of a lent list does
-unfoldable pub through : {L S : Type 0} → (L → S → L) → L → List S → L
-through f a [] = a
-through f a (s ∷ ss) = through f (f a s) ss
+-- ---- the ways through the by-value functions
+tally : {n m : ℕ} {c d : Counted} {a b : Bool} → n ≡ m → c ≡ d → a ≡ b
+    → _≡_ {A = Tally} (record { firsts = n; counted = c; fits = a }) (record { firsts = m; counted = d; fits = b })
+tally e f g = cc
 
-module _ {L S : Type 0} (f : L → S → L) (a : L) (ys : List S) (i : ℕ) where
-  pub one-more : (d : S) → i < length ys → through f (f a (getD ys i d)) (drop (i + 1) ys) ≡ through f a (drop i ys)
-  unfolding through
-  one-more d h = rw (add-one i, drop-cons ys i d h)
+pub fits-off : (a b : Bool) → a ≡ false → false ≡ both a b
+fits-off a b e = rw e
 
-  pub at-end : i ≤ length ys → length ys ≤ i → through f a (drop i ys) ≡ a
-  unfolding through
-  at-end h g = rw (le-antisymm h g, drop-length ys)
+pub fits-on : (a b : Bool) → a ≡ true → b ≡ both a b
+fits-on a b e = rw e
 
--- ---- the ways through the step
-module _ (witnesses : ℕ) (l : Sigers) (c : Counted) (s : Siger) where
-  pub counted-same : any (sameWire s) (signatures l) ≡ true → c ≡ countedNext witnesses l c s
-  unfolding countedNext
-  counted-same e = rw e
+module _ (witnesses : ℕ) (t : Tally) (s : Siger) (i j : ℕ) {f : Bool} (fit : f ≡ both (t .fits) (ondexFits s)) where
+  pub step-copy : j < i → record { firsts = t .firsts; counted = t .counted; fits = f } ≡ stepOf witnesses t s i j
+  unfolding stepOf
+  step-copy h = rw (lt-ltb j i h) (tally refl refl fit)
 
-  pub counted-new : any (sameWire s) (signatures l) ≡ false → countedWith witnesses 0 c s ≡ countedNext witnesses l c s
-  unfolding countedNext
-  counted-new e = rw e
+  pub step-first : {n : ℕ} {c : Counted} → i ≤ j → n ≡ withFirst (t .firsts) i → c ≡ countedWith witnesses 0 (t .counted) s
+      → record { firsts = n; counted = c; fits = f } ≡ stepOf witnesses t s i j
+  unfolding stepOf
+  step-first h e g = rw (le-ltb j i h) (tally e g fit)
 
-module _ (l : Sigers) (s : Siger) where
-  pub pushed-full : 48 ≤ l .count → l ≡ pushed l s
-  unfolding pushed
-  pushed-full h = rw (le-leb 48 (l .count) h)
-
-  pub pushed-in : l .count < 48 → record { count = l .count + 1; at = set (l .at) (l .count) s } ≡ pushed l s
-  unfolding pushed
-  pushed-in h = rw (lt-leb 48 (l .count) h)
-
--- ---- a list, element by element
-abbrev tallyOf : ℕ → List Siger → Tally
-tallyOf witnesses xs = record { seen = packedSigers xs; counted = countedOf witnesses 0 xs }
-
-sigers : {n m : ℕ} {a b : List Siger} → n ≡ m → a ≡ b → _≡_ {A = Sigers} (record { count = n; at = a }) (record { count = m; at = b })
-sigers e f = cc
-
-pub tally : {l m : Sigers} {c d : Counted} → l ≡ m → c ≡ d → _≡_ {A = Tally} (record { seen = l; counted = c }) (record { seen = m; counted = d })
-tally e f = cc
-
-one-longer : (xs : List Siger) (s : Siger) → length xs + 1 ≡ length (xs ++ (s ∷ []))
-one-longer xs s = sym (length-append xs (s ∷ []))
-
-pushed-is : (xs : List Siger) (s : Siger) → length xs < 48 → pushed (packedSigers xs) s ≡ packedSigers (xs ++ (s ∷ []))
-pushed-is xs s h = sym (pushed-in (packedSigers xs) s h) ∙ sigers (one-longer xs s) (padded-push noSiger 48 xs s h)
-
-counted-is : (witnesses : ℕ) (xs : List Siger) (s : Siger) → countedNext witnesses (packedSigers xs) (countedOf witnesses 0 xs) s ≡ countedOf witnesses 0 (xs ++ (s ∷ []))
-unfolding countedNext
-counted-is witnesses xs s = rw (padded-used noSiger 48 xs) (by-test (any (sameWire s) xs) refl)
-  where
-    by-test : (b : Bool) → any (sameWire s) xs ≡ b → pick b (countedOf witnesses 0 xs) (countedWith witnesses 0 (countedOf witnesses 0 xs) s) ≡ countedOf witnesses 0 (xs ++ (s ∷ []))
-    by-test true e = counted-copy witnesses 0 xs s e
-    by-test false e = counted-more witnesses 0 xs s e
-
-step-is : (witnesses : ℕ) (xs : List Siger) (s : Siger) → length xs < 48 → stepOf witnesses (tallyOf witnesses xs) s ≡ tallyOf witnesses (xs ++ (s ∷ []))
-unfolding stepOf
-step-is witnesses xs s h = tally (pushed-is xs s h) (counted-is witnesses xs s)
-
-stepped-from : (witnesses : ℕ) (xs ys : List Siger) → length xs + length ys ≤ 48 → through (stepOf witnesses) (tallyOf witnesses xs) ys ≡ tallyOf witnesses (xs ++ ys)
-unfolding through
-stepped-from witnesses xs [] h = rw (append-nil xs)
-stepped-from witnesses xs (y ∷ ys) h =
-    let n : length (xs ++ (y ∷ [])) ≡ length xs + 1 = sym (one-longer xs y) in
-    let ih = stepped-from witnesses (xs ++ (y ∷ [])) ys (omega arith) in
-    let e : (xs ++ (y ∷ [])) ++ ys ≡ xs ++ (y ∷ ys) = append-assoc xs (y ∷ []) ys in
-    rw (step-is witnesses xs y (omega arith)) (ih ∙ ap (tallyOf witnesses) e)
-
-stepped-is : (witnesses : ℕ) (xs : List Siger) → length xs ≤ 48 → through (stepOf witnesses) noneYet xs ≡ tallyOf witnesses xs
-stepped-is witnesses xs h =
-    let e : noneYet ≡ tallyOf witnesses [] = tally refl (sym (counted-none witnesses 0)) in
-    ap (λ (t : Tally). through (stepOf witnesses) t xs) e ∙ stepped-from witnesses [] xs (omega arith)
-
--- ---- what is concluded
 module _ (toad : ℕ) (t : Tally) where
-  pub conclude-fault : (n : ℕ) → n ≡ shapeOf (t .seen) → (n ≡ 0 → ⊥) → refused n 0 0 ≡ concluded toad t
+  pub conclude-fault : t .fits ≡ false → refused 3 0 0 ≡ concluded toad t
   unfolding concluded
-  conclude-fault n e f = rw (← e, ne-eqb n 0 f)
+  conclude-fault e = rw e
 
-  pub conclude-good : (n : ℕ) → n ≡ shapeOf (t .seen) → n ≡ 0 → receipts toad (placesIn (t .counted .verified)) ≡ concluded toad t
+  pub conclude-good : t .fits ≡ true → receipts toad (placesIn (t .counted .verified)) ≡ concluded toad t
   unfolding concluded
-  conclude-good n e f = rw (← e, eq-eqb n 0 f)
+  conclude-good e = rw e
 
-all-zero : (n : ℕ) → all zeroSiger (replicate n noSiger) ≡ true
-unfolding all sameWire sameNumbers
-all-zero zero = refl
-all-zero (suc n) = all-zero n
-
--- a packed list has only its own faults
-packed-shape : (xs : List Siger) → length xs ≤ 48 → shapeOf (packedSigers xs) ≡ pick (all ondexFits xs) 0 3
-unfolding shapeOf
-packed-shape xs h = rw (le-leb (length xs) 48 h, padded-used noSiger 48 xs, padded-unused noSiger 48 xs, all-zero (48 - length xs))
-
-concluded-is : (toad witnesses : ℕ) (xs : List Siger) → length xs ≤ 48
-    → concluded toad (tallyOf witnesses xs) ≡ pick (all ondexFits xs) (receiptedBy toad witnesses xs) (refused 3 0 0)
-unfolding concluded
-concluded-is toad witnesses xs h = rw (packed-shape xs h, places-set (verifiedAt witnesses xs)) (by-test (all ondexFits xs))
+-- ---- the tally of a list's first i
+all-more : {A : Type 0} (f : A → Bool) (xs : List A) (x : A) → all f (xs ++ (x ∷ [])) ≡ both (all f xs) (f x)
+unfolding all
+all-more f [] x = both-true (f x)
   where
-    by-test : (b : Bool) → pick (eqb (pick b 0 3) 0) (receiptedBy toad witnesses xs) (refused (pick b 0 3) 0 0) ≡ pick b (receiptedBy toad witnesses xs) (refused 3 0 0)
-    by-test true = refl
-    by-test false = refl
+    both-true : (b : Bool) → both b true ≡ b
+    both-true true = refl
+    both-true false = refl
+all-more f (y ∷ ys) x = ap (both (f y)) (all-more f ys x) ∙ both-assoc (f y) (all f ys) (f x)
+  where
+    both-assoc : (a b c : Bool) → both a (both b c) ≡ both (both a b) c
+    both-assoc true b c = refl
+    both-assoc false b c = refl
+
+module _ (witnesses : ℕ) (xs : List Siger) where
+  abbrev pub tallyAt : ℕ → Tally
+  tallyAt i = record { firsts = firstsIn xs i; counted = countedOf witnesses 0 (take i xs); fits = all ondexFits (take i xs) }
+
+  pub tally-none : noneYet ≡ tallyAt 0
+  unfolding all
+  tally-none = tally (sym (firsts-none xs)) (sym (counted-none witnesses 0)) refl
+
+  abbrev here : ℕ → Siger
+  here i = getD xs i blank
+
+  -- none before position j is equal to the element at i
+  abbrev pub Unlike : ℕ → ℕ → Type 0
+  Unlike i j = any (sameWire (here i)) (take j xs) ≡ false
+
+  abbrev pub copies : ℕ → ℕ → Bool
+  copies i j = both (hasFirst (tallyAt i .firsts) j) (sameWire (here i) (here j))
+
+  pub unlike-none : (i : ℕ) → Unlike i 0
+  unlike-none i = none-before (here i)
+
+  module _ (short : length xs ≤ 48) (i : ℕ) (in-list : i < length xs) where
+    pub unlike-next : (j : ℕ) → j < i → Unlike i j → copies i j ≡ false → Unlike i (j + 1)
+    unlike-next j h u e = list-other xs i (firstsIn xs i) refl (here i) j h (omega arith) (omega arith) u e
+
+    fit-more : both (all ondexFits (take i xs)) (ondexFits (here i)) ≡ all ondexFits (take (i + 1) xs)
+    fit-more = rw (add-one i, take-suc xs i blank in-list) (sym (all-more ondexFits (take i xs) (here i)))
+
+    pub copy-step : (j : ℕ) → j < i → copies i j ≡ true → stepOf witnesses (tallyAt i) (here i) i j ≡ tallyAt (i + 1)
+    copy-step j h e =
+        let f = list-copy xs i (firstsIn xs i) refl (here i) j h (omega arith) e in
+        sym (step-copy witnesses (tallyAt i) (here i) i j refl h)
+        ∙ tally (firsts-kept xs i (firstsIn xs i) refl f) (next-copy witnesses 0 xs i (countedOf witnesses 0 (take i xs)) in-list refl f) fit-more
+
+    pub first-step : (j : ℕ) → i ≤ j → j ≤ i → Unlike i j → stepOf witnesses (tallyAt i) (here i) i j ≡ tallyAt (i + 1)
+    first-step j h k d =
+        let u : Unlike i i = subst (Unlike i) (le-antisymm k h) d in
+        sym (step-first witnesses (tallyAt i) (here i) i j refl h refl refl)
+        ∙ tally (firsts-with xs i (firstsIn xs i) refl (omega arith) u) (next-more witnesses 0 xs i (countedOf witnesses 0 (take i xs)) in-list refl u) fit-more
 
 -- ---- the whole answer
 module _ (toad witnesses : ℕ) (xs : List Siger) where
@@ -143,9 +121,9 @@ module _ (toad witnesses : ℕ) (xs : List Siger) where
   unfolding receiptedFrom
   too-many h = rw (lt-leb (length xs) 48 h)
 
-  pub few-enough : length xs ≤ 48 → concluded toad (through (stepOf witnesses) noneYet xs) ≡ receiptedFrom toad witnesses xs
-  unfolding receiptedFrom
-  few-enough h = rw (stepped-is witnesses xs h, le-leb (length xs) 48 h) (concluded-is toad witnesses xs h)
+  pub few-enough : length xs ≤ 48 → concluded toad (tallyAt witnesses xs (length xs)) ≡ receiptedFrom toad witnesses xs
+  unfolding receiptedFrom concluded
+  few-enough h = rw (take-all (length xs) xs (le-refl (length xs)), le-leb (length xs) 48 h, places-set (verifiedAt witnesses xs))
 
 -- a list of the right shape, held by value, gets what it gets lent
 pub as-by-value : (w : Witnessing) (l : Sigers) → length (l .at) ≡ 48 → shapeOf l ≡ 0 → receiptedFrom (w .toad) (length (listed (w .witnesses))) (signatures l) ≡ witnessed w l

@@ -1,16 +1,16 @@
 -- What a lent list of receipts gets. The whole answer first; then the by-value counting step that the walk hands each element to.
-use Prim.Native.Nat.{ℕ, _+_}
-use mathlib.Core.List.{List, []}
-use lib.Dec.{eqb, leb}
-use lib.ListN.{length, set}
-use Rattle.lists.specs.Lists.{pick, any, all}
+use Prim.Native.Nat.{ℕ}
+use mathlib.Core.List.{List}
+use mathlib.Core.Bool.{true}
+use lib.Dec.{ltb, leb}
+use lib.ListN.{length}
+use Rattle.lists.specs.Lists.{pick, both, all}
 use Rattle.answer.specs.declared.Answer.{Answer}
 use Rattle.answer.specs.Answer.{refused}
 use Rattle.places.specs.Places.{placesIn}
+use Rattle.firsts.specs.Firsts.{withFirst}
 use Rattle.verification.specs.declared.Siger.{Siger}
-use Rattle.verification.specs.declared.Sigers.{Sigers}
-use Rattle.verification.specs.declared.Counted.{Counted}
-use Rattle.verification.specs.Verification.{signatures, sameWire, countedWith, ondexFits, packedSigers, shapeOf}
+use Rattle.verification.specs.Verification.{countedWith, ondexFits}
 use Rattle.authority.specs.Authority.{receipts, receiptedBy}
 use Rattle.lent_receipts.specs.declared.Tally.{Tally}
 
@@ -20,18 +20,18 @@ unfoldable pub receiptedFrom : ℕ → ℕ → List Siger → Answer
 receiptedFrom toad witnesses xs =
     pick (leb (length xs) 48) (pick (all ondexFits xs) (receiptedBy toad witnesses xs) (refused 3 0 0)) (refused 4 0 0)
 
--- ---- One at a time. "Of copies equal in code, index, ondex and raw, the first decides."
-unfoldable pub countedNext : ℕ → Sigers → Counted → Siger → Counted
-countedNext witnesses l c s = pick (any (sameWire s) (signatures l)) c (countedWith witnesses 0 c s)
-
-unfoldable pub pushed : Sigers → Siger → Sigers
-pushed l s = pick (leb 48 (l .count)) l (record { count = l .count + 1; at = set (l .at) (l .count) s })
-
-unfoldable pub stepOf : ℕ → Tally → Siger → Tally
-stepOf witnesses t s = record { seen = pushed (t .seen) s; counted = countedNext witnesses (t .seen) (t .counted) s }
+-- ---- One at a time. "Of copies equal in code, index, ondex and raw, the first decides.": the receipt at position i, a copy of the one at j where that is
+-- earlier
+unfoldable pub stepOf : ℕ → Tally → Siger → ℕ → ℕ → Tally
+stepOf witnesses t s i j =
+    record {
+      firsts = pick (ltb j i) (t .firsts) (withFirst (t .firsts) i);
+      counted = pick (ltb j i) (t .counted) (countedWith witnesses 0 (t .counted) s);
+      fits = both (t .fits) (ondexFits s);
+    }
 
 abbrev pub noneYet : Tally
-noneYet = record { seen = packedSigers []; counted = record { verified = 0; exposed = 0 } }
+noneYet = record { firsts = 0; counted = record { verified = 0; exposed = 0 }; fits = true }
 
 unfoldable pub concluded : ℕ → Tally → Answer
-concluded toad t = pick (eqb (shapeOf (t .seen)) 0) (receipts toad (placesIn (t .counted .verified))) (refused (shapeOf (t .seen)) 0 0)
+concluded toad t = pick (t .fits) (receipts toad (placesIn (t .counted .verified))) (refused 3 0 0)

@@ -1,95 +1,81 @@
-// The lent list of receipts: walked once, each element handed to a by-value counting step.
+// The lent list of receipts: walked once, each element handed to a by-value counting step. None is stored: a copy is looked for in the lent list itself, at
+// the positions of the first ones.
 ghost use mathlib.Core.Path.{_≡_};
-ghost use Rattle.lists.specs.Lists.{any};
+ghost use Rattle.lists.specs.Lists.{both};
+ghost use Rattle.firsts.specs.Firsts.{hasFirst};
 ghost use Rattle.answer.specs.Answer.{refused};
-ghost use Rattle.verification.specs.Verification.{signatures, sameWire};
-ghost use Rattle.lent_receipts.specs.Receipted.{pushed, countedNext, stepOf, noneYet, concluded, receiptedFrom};
+ghost use Rattle.verification.specs.Verification.{sameWire, ondexFits};
+ghost use Rattle.lent_receipts.specs.Receipted.{stepOf, noneYet, concluded, receiptedFrom};
 use answer::Answer;
 use verification::Counted;
 use verification::Siger;
-use verification::Sigers;
 
-// The receipts so far, since a copy is looked for among them, and the places that they speak for.
+// Of the receipts so far: which positions have first ones, the places that they speak for, and whether every ondex fits its flag.
 struct Tally {
-    pub seen: Sigers,
+    pub firsts: u64,
     pub counted: Counted,
-}
-
-fn is_copy(l: Sigers, s: Siger) -> bool
-    ensures { λ r. ⌜ r ≡ any (sameWire s) (signatures l) ⌝ }
-{
-    let n = l.count;
-    let at = l.at;
-    let mut i: usize = 0;
-    while i < 48 {
-        if n <= i {
-            return false;
-        }
-        let earlier = at[i];
-        if verification::same_wire(s, earlier) {
-            return true;
-        }
-        i += 1;
-    }
-    false
-}
-
-// "Of copies equal in code, index, ondex and raw, the first decides."
-fn counted_next(l: Sigers, c: Counted, s: Siger, witnesses: usize) -> Counted
-    ensures { λ r. ⌜ r ≡ countedNext witnesses l c s ⌝ }
-{
-    if is_copy(l, s) {
-        return c;
-    }
-    verification::counted_with(c, s, witnesses, 0)
-}
-
-// A full list stays as it is: the walk hands over no more than 48.
-fn pushed(l: Sigers, s: Siger) -> Sigers
-    ensures { λ r. ⌜ r ≡ pushed l s ⌝ }
-{
-    let n = l.count;
-    if 48 <= n {
-        return l;
-    }
-    let mut m = l;
-    m.at[n] = s;
-    m.count = n + 1;
-    m
+    pub fits: bool,
 }
 
 fn none_yet() -> Tally
     ensures { λ r. ⌜ r ≡ noneYet ⌝ }
 {
-    let none = verification::no_siger();
-    let at = [none; 48];
-    let seen = Sigers { count: 0, at };
     let counted = Counted {
         verified: 0,
         exposed: 0,
     };
-    Tally { seen, counted }
+    Tally {
+        firsts: 0,
+        counted,
+        fits: true,
+    }
 }
 
-// The counting step. A copy is kept among the receipts too; it changes no place.
-fn step(t: Tally, s: Siger, witnesses: usize) -> Tally
-    ensures { λ r. ⌜ r ≡ stepOf witnesses t s ⌝ }
+fn is_copy(t: Tally, position: usize, earlier: Siger, s: Siger) -> bool
+    ensures { λ r. ⌜ r ≡ both (hasFirst (t .firsts) position) (sameWire s earlier) ⌝ }
 {
-    let before = t.seen;
-    let sets = t.counted;
-    let counted = counted_next(before, sets, s, witnesses);
-    let seen = pushed(before, s);
-    Tally { seen, counted }
+    verification::is_copy(t.firsts, position, earlier, s)
+}
+
+fn fits_with(so: bool, s: Siger) -> bool
+    ensures { λ r. ⌜ r ≡ both so (ondexFits s) ⌝ }
+{
+    if so {
+        verification::ondex_fits(s)
+    } else {
+        false
+    }
+}
+
+// The counting step, for the receipt at position i: a copy of the one at j where that is earlier. "Of copies equal in code, index, ondex and raw, the first
+// decides."
+fn step(t: Tally, s: Siger, i: usize, j: usize, witnesses: usize) -> Tally
+    ensures { λ r. ⌜ r ≡ stepOf witnesses t s i j ⌝ }
+{
+    let fits = fits_with(t.fits, s);
+    let before = t.counted;
+    if j < i {
+        return Tally {
+            firsts: t.firsts,
+            counted: before,
+            fits,
+        };
+    }
+    let counted = verification::counted_with(before, s, witnesses, 0);
+    let firsts = firsts::with(t.firsts, i);
+    Tally {
+        firsts,
+        counted,
+        fits,
+    }
 }
 
 // Shape before the count, and also where toad is 0.
 fn conclude(t: Tally, toad: u32) -> Answer
     ensures { λ r. ⌜ r ≡ concluded toad t ⌝ }
 {
-    let l = t.seen;
-    let fault = verification::shape(l);
-    if fault != 0 {
-        return answer::refuse(fault, 0, 0);
+    if !t.fits {
+        return answer::refuse(3, 0, 0);
     }
     let sets = t.counted;
     authority::receipts(toad, sets.verified)
@@ -111,7 +97,15 @@ pub fn receipted_by(toad: u32, witnesses: usize, receipts: &[Siger]) -> Answer
     let mut t = none_yet();
     let mut i: usize = 0;
     while i < receipts.len() {
-        t = step(t, receipts[i], witnesses);
+        let s = receipts[i];
+        let mut j: usize = 0;
+        while j < i {
+            if is_copy(t, j, receipts[j], s) {
+                break;
+            }
+            j += 1;
+        }
+        t = step(t, s, i, j, witnesses);
         i += 1;
     }
     conclude(t, toad)

@@ -26,7 +26,7 @@ abbrev bit : Bool → ℕ
 bit b = pick b 1 0
 
 -- ---- the number of a property, and its bits
-set-lt : (n : ℕ) (f : ℕ → Bool) → setOf n f < 2 ^ n
+pub set-lt : (n : ℕ) (f : ℕ → Bool) → setOf n f < 2 ^ n
 unfolding setOf
 set-lt zero f = omega arith
 set-lt (suc n) f = rw pow-suc (bound (f n) (setOf n f) (2 ^ n) (set-lt n f))
@@ -91,7 +91,7 @@ set-bits (suc n) s h =
 abbrev pub with : ℕ → (ℕ → Bool) → ℕ → Bool
 with p f k = either (f k) (eqb p k)
 
-either-true : (x : Bool) → either x true ≡ true
+pub either-true : (x : Bool) → either x true ≡ true
 either-true true = refl
 either-true false = refl
 

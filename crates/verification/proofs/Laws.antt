@@ -2,6 +2,8 @@
 --     within-at                what a place that was found says
 --     exposed-, counted-       the ways through the step; counted-copy, counted-more, counted-none: one more signature in a list
 --     next-, used-all, array-all   the same along an array, and the end of its used places
+--     wire-trans               what equals a copy equals the one copied
+--     firstsIn, firsts-, list- the positions of a list's first ones, one more signature, and a step of the search among them
 --     places-48, good, packed-signatures   how many places a list has; one of the right shape is its signatures, packed
 use mathlib.Core.Path.{_≡_, refl, sym, ap, _∙_}
 use mathlib.Core.Bool.{Bool, true, false}
@@ -18,10 +20,12 @@ use mir.Val.{Val}
 use denote.Laws.{Is}
 use Rattle.lists.specs.Lists.{pick, both, either, any, all, sameNumbers}
 use Rattle.lists.specs.declared.Found.the-variants.{At, Nothing}
-use Rattle.lists.proofs.Facts.{both-true, both-in, picks, any-append, same-numbers}
+use Rattle.lists.proofs.Facts.{both-true, both-in, picks, same-numbers, clash}
 use Rattle.lists.proofs.Padding.{is-padded}
 use Rattle.places.specs.Places.{setOf, withPlace}
 use Rattle.places.proofs.Laws.{with, with-set, set-same, set-none, either-false}
+use Rattle.firsts.specs.Firsts.{hasFirst, withFirst, firstOnes}
+use Rattle.firsts.proofs.Laws.{any-more, none-yet, first-kept, first-more, is-copy, no-copy}
 use Rattle.verification.specs.declared.Siger.{Siger}
 use Rattle.verification.specs.declared.Sigers.{Sigers}
 use Rattle.verification.specs.declared.Counted.{Counted}
@@ -107,10 +111,6 @@ module _ (keys next : ℕ) (c : Counted) (s : Siger) where
       rw (both-in (s .verified) (ltb (s .index .0) keys) g (f .1)) (made (h ∙ ap (withPlace (c .verified)) (f .0)) k)
 
 -- ---- one more signature
-any-more : {A : Type 0} (f : A → Bool) (xs : List A) (x : A) → any f (xs ++ (x ∷ [])) ≡ either (any f xs) (f x)
-unfolding any
-any-more f xs x = any-append f xs (x ∷ []) ∙ ap (either (any f xs)) (either-false (f x))
-
 firsts-more : (before xs : List Siger) (s : Siger) → firsts before (xs ++ (s ∷ [])) ≡ firsts before xs ++ pick (any (sameWire s) (before ++ xs)) [] (s ∷ [])
 unfolding firsts
 firsts-more before [] s = rw (append-nil before)
@@ -194,11 +194,7 @@ used-all keys next at n i h g = rw (le-antisymm h g)
 pub array-all : (keys next : ℕ) (at : List Siger) (n i : ℕ) → i ≤ n → length at ≤ i → countedOf keys next (take i at) ≡ countedOf keys next (take n at)
 array-all keys next at n i h g = rw (take-all i at g, take-all n at (le-trans g h))
 
--- ---- shape: only the zero signature is zero, and an array whose unused places are zero is its used ones, padded
-flag-off : (b : Bool) → sameFlag false b ≡ true → b ≡ false
-flag-off true e = sym e
-flag-off false e = refl
-
+-- ---- copies of copies
 record Five (a b c d e : Bool) : Type 0 where
   one : a ≡ true
   two : b ≡ true
@@ -213,6 +209,59 @@ all-five a b c d e h =
     let r = both-true c (both d e) (q .1) in
     let t = both-true d e (r .1) in
     record { one = p .0; two = q .0; three = r .0; four = t .0; five = t .1 }
+
+same-flags : (a b : Bool) → sameFlag a b ≡ true → a ≡ b
+same-flags true true e = refl
+same-flags true false e = sym e
+same-flags false true e = clash (sym e)
+same-flags false false e = refl
+
+pub wire-trans : (x y z : Siger) → sameWire x y ≡ true → sameWire y z ≡ true → sameWire x z ≡ true
+unfolding sameWire
+wire-trans x y z e f =
+    let p = all-five (eqb (x .code) (y .code)) (eqb (x .index .0) (y .index .0)) (sameFlag (x .dual) (y .dual)) (eqb (x .ondex .0) (y .ondex .0)) (sameNumbers (x .raw) (y .raw)) e in
+    rw (
+      eqb-true (x .code) (y .code) (p .one),
+      eqb-true (x .index .0) (y .index .0) (p .two),
+      same-flags (x .dual) (y .dual) (p .three),
+      eqb-true (x .ondex .0) (y .ondex .0) (p .four),
+      same-numbers (x .raw) (y .raw) (p .five),
+    ) f
+
+-- ---- the search for a copy among the first ones
+abbrev pub firstsIn : List Siger → ℕ → ℕ
+firstsIn xs i = firstOnes sameWire (λ p. getD xs p blank) (λ p. take p xs) i
+
+one-further : (xs : List Siger) (p : ℕ) → p < length xs → take (p + 1) xs ≡ take p xs ++ (getD xs p blank ∷ [])
+one-further xs p h = rw (add-one p) (take-suc xs p blank h)
+
+pub firsts-none : (xs : List Siger) → firstsIn xs 0 ≡ 0
+firsts-none xs = none-yet sameWire (λ p. getD xs p blank) (λ p. take p xs)
+
+-- before the first position there is none
+pub none-before : (x : Siger) → any (sameWire x) [] ≡ false
+unfolding any
+none-before x = refl
+
+module _ (xs : List Siger) (i set : ℕ) (e : set ≡ firstsIn xs i) where
+  pub firsts-kept : any (sameWire (getD xs i blank)) (take i xs) ≡ true → set ≡ firstsIn xs (i + 1)
+  firsts-kept f = e ∙ first-kept sameWire (λ p. getD xs p blank) (λ p. take p xs) i f
+
+  pub firsts-with : i < 64 → any (sameWire (getD xs i blank)) (take i xs) ≡ false → withFirst set i ≡ firstsIn xs (i + 1)
+  firsts-with h f = rw e (first-more sameWire (λ p. getD xs p blank) (λ p. take p xs) i h f)
+
+  module _ (x : Siger) (j : ℕ) (h : j < i) (g : i ≤ length xs) where
+    pub list-copy : both (hasFirst set j) (sameWire x (getD xs j blank)) ≡ true → any (sameWire x) (take i xs) ≡ true
+    list-copy f = is-copy sameWire (λ p. getD xs p blank) (λ p. take p xs) wire-trans (length xs) (one-further xs) x i j h g (rw e at f)
+
+    pub list-other : i ≤ 64 → any (sameWire x) (take j xs) ≡ false → both (hasFirst set j) (sameWire x (getD xs j blank)) ≡ false
+        → any (sameWire x) (take (j + 1) xs) ≡ false
+    list-other w d f = no-copy sameWire (λ p. getD xs p blank) (λ p. take p xs) wire-trans (length xs) (one-further xs) x i j h g w d (rw e at f)
+
+-- ---- shape: only the zero signature is zero, and an array whose unused places are zero is its used ones, padded
+flag-off : (b : Bool) → sameFlag false b ≡ true → b ≡ false
+flag-off true e = sym e
+flag-off false e = refl
 
 abbrev made-of : ℕ → ℕ → Bool → ℕ → List ℕ → Bool → Bool → Siger
 made-of c i d o r v m = record { code = c; index = record { 0 = i }; dual = d; ondex = record { 0 = o }; raw = r; verified = v; matches = m }

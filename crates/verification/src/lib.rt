@@ -1,7 +1,8 @@
 // Signatures, and the places that they speak for: an index finds a key, an ondex a commitment, and neither the other.
 ghost use mathlib.Core.Path.{_≡_};
 ghost use lib.ListN.{drop};
-ghost use Rattle.lists.specs.Lists.{all, sameNumbers};
+ghost use Rattle.lists.specs.Lists.{both, all, sameNumbers};
+ghost use Rattle.firsts.specs.Firsts.{hasFirst};
 ghost use Rattle.verification.specs.Verification.{signatures, sameFlag, sameWire, placeWithin, keyPlace, commitmentPlace};
 ghost use Rattle.verification.specs.Verification.{exposedWith, countedWith, countedOf, claimed, noSiger, ondexFits, zeroSiger, shapeOf};
 use lists::Found;
@@ -159,32 +160,43 @@ pub fn counted_with(c: Counted, s: Siger, keys: usize, next: usize) -> Counted
     counted_claim(c, claim, keys, next)
 }
 
-// One loop for signatures and receipts alike. A copy is looked for among the places before it.
+// Whether a signature is a copy of an earlier one at a position. Only first ones are compared: what equals a copy equals the one copied.
+pub fn is_copy(set: u64, position: usize, earlier: Siger, s: Siger) -> bool
+    ensures { λ r. ⌜ r ≡ both (hasFirst set position) (sameWire s earlier) ⌝ }
+{
+    if !firsts::has(set, position) {
+        return false;
+    }
+    same_wire(s, earlier)
+}
+
+// One loop for signatures and receipts alike. A copy is looked for in the list itself, at the positions of the first ones.
 pub fn count(l: Sigers, keys: usize, next: usize) -> Counted
     ensures { λ r. ⌜ r ≡ countedOf keys next (signatures l) ⌝ }
 {
     let n = l.count;
-    let at = l.at;
     let mut c = Counted {
         verified: 0,
         exposed: 0,
     };
+    let mut set: u64 = 0;
     let mut i: usize = 0;
     'each: while i < 48 {
         if n <= i {
             return c;
         }
-        let s = at[i];
+        let s = l.at[i];
         let mut j: usize = 0;
         while j < i {
-            let earlier = at[j];
-            if same_wire(s, earlier) {
+            let earlier = l.at[j];
+            if is_copy(set, j, earlier, s) {
                 i += 1;
                 continue 'each;
             }
             j += 1;
         }
         c = counted_with(c, s, keys, next);
+        set = firsts::with(set, i);
         i += 1;
     }
     c
@@ -237,7 +249,7 @@ fn ondexes_fit(l: Sigers) -> bool
 }
 
 // Without an ondex its number is 0.
-fn ondex_fits(s: Siger) -> bool
+pub fn ondex_fits(s: Siger) -> bool
     ensures { λ r. ⌜ r ≡ ondexFits s ⌝ }
 {
     let ondex = s.ondex;

@@ -1,13 +1,14 @@
 -- Signatures in place: which have their shape, when two are copies, and the list by its places. Assumes nothing.
 --     shaped-..     each way through the test of a signature's shape
 --     same-..       each way through the comparison of two
---     copy-..       the search for a copy, one place further
+--     firsts-.., list-..   the first ones with one signature more, and a step of the search for a copy among them
 --     next-..       the sets of places with one signature more
 --     sigers-values   scanning a list and taking the signatures at its places is reading it
 use mathlib.Core.Path.{_≡_, refl, sym, ap, _∙_}
 use mathlib.Core.Bool.{Bool, true, false, not, _&&_}
-use mathlib.Core.List.{List}
-use Prim.Native.Nat.{ℕ, suc, _+_, _*_, _-_, _≤_, _<_}
+use mathlib.Core.List.{List, [], _∷_, _++_}
+use Prim.Native.Nat.{ℕ, _+_, _*_, _≤_, _<_}
+use native.Mathlib.Nat.{le-refl}
 use native.Mathlib.Omega.{arith}
 use lib.Dec.{leb, eqb, ltb}
 use lib.ListN.{length, take, drop, getD, length-take, length-drop}
@@ -25,8 +26,10 @@ use Rattle.verification.specs.declared.Siger.{Siger}
 use Rattle.verification.specs.declared.Counted.{Counted}
 use Rattle.verification.specs.declared.Claim.{Claim}
 use Rattle.verification.specs.Verification.{sameFlag, sameWire, countedWith, exposedWith, countedOf, claimed, claimOf, packedSigers}
-use Rattle.verification.proofs.Laws.{counted-none, counted-copy, counted-more}
-use Rattle.wire.specs.Wire.{wordOf, sigerOf, sigersOf, shapedAt, placeAt, sigersSpan}
+use Rattle.verification.proofs.Laws.{counted-none, counted-copy, counted-more, wire-trans}
+use Rattle.firsts.specs.Firsts.{hasFirst, withFirst}
+use Rattle.firsts.proofs.Laws.{none-yet, first-kept, first-more, is-copy, no-copy}
+use Rattle.wire.specs.Wire.{wordOf, sigerOf, sigersOf, firstsFrom, shapedAt, placeAt, sigersSpan}
 
 -- ---- shape
 module _ (s : List ℕ) (at : ℕ) where
@@ -80,7 +83,7 @@ module _ (n : ℕ) (s : List ℕ) (p q i : ℕ) (hp : p + n ≤ length s) (hq : 
   run-at : (k : ℕ) → i < n → getD (take n (drop k s)) i 0 ≡ getD s (k + i) 0
   run-at k h = rw (getD-take n (drop k s) i 0 h, getD-drop)
 
-  pub run-stop : i < n → (getD s (p + i) 0 ≡ getD s (q + i) 0 → ⊥) → left n s p q i ≡ false
+  run-stop : i < n → (getD s (p + i) 0 ≡ getD s (q + i) 0 → ⊥) → left n s p q i ≡ false
   run-stop h d =
       let a : i < length (take n (drop p s)) = omega (arith, run-length p hp) in
       let b : i < length (take n (drop q s)) = omega (arith, run-length q hq) in
@@ -105,6 +108,9 @@ both-off false = refl
 both-on : (a : Bool) → both a true ≡ a
 both-on true = refl
 both-on false = refl
+
+pub other-too : (a b : Bool) → b ≡ false → both a b ≡ false
+other-too a b e = rw (e, both-off a)
 
 pub flag-off : (b : Bool) → not b ≡ sameFlag false b
 flag-off true = refl
@@ -134,6 +140,13 @@ module _ (s : List ℕ) (p q : ℕ) (hp : p + 76 ≤ length s) (hq : q + 76 ≤ 
   pub same-raw : Raw false → wire ≡ false
   same-raw e = wire-is ∙ rw (e, both-off (eqb (wordOf s (p + 6)) (wordOf s (q + 6))), both-off (sameFlag _ _), both-off (eqb (wordOf s (p + 1)) _), both-off)
 
+  -- told apart by the first raw byte
+  pub same-first : (getD s (p + 10) 0 ≡ getD s (q + 10) 0 → ⊥) → wire ≡ false
+  same-first d =
+      let a : p + 10 + 0 ≡ p + 10 = omega arith in
+      let b : q + 10 + 0 ≡ q + 10 = omega arith in
+      same-raw (run-stop 64 s (p + 10) (q + 10) 0 (omega arith) (omega arith) (omega arith) (rw (a, b) d))
+
   pub same-code : (getD s p 0 ≡ getD s q 0 → ⊥) → wire ≡ false
   same-code d = wire-is ∙ rw (ne-eqb _ _ d)
 
@@ -146,19 +159,38 @@ module _ (s : List ℕ) (p q : ℕ) (hp : p + 76 ≤ length s) (hq : q + 76 ≤ 
   pub same-ondex : Raw true → getD s p 0 ≡ getD s q 0 → wordOf s (p + 1) ≡ wordOf s (q + 1) → Flag true → wire ≡ eqb (wordOf s (p + 6)) (wordOf s (q + 6))
   same-ondex r c i f = wire-is ∙ rw (r, eq-eqb (getD s p 0) _ c, eq-eqb (wordOf s (p + 1)) _ i, f, both-on)
 
--- ---- the search for a copy: j of i are looked at, and the next stands at q
-module _ (s : List ℕ) (f : Siger → Bool) (i j q : ℕ) (x : Bool) (e : x ≡ any f (listOf (sigerOf s) 76 (i - j) q)) where
-  pub copy-here : j < i → f (sigerOf s q) ≡ true → x ≡ true
-  unfolding any listOf
-  copy-here h d = let m : i - j ≡ suc (i - (j + 1)) = omega arith in e ∙ rw m (rw d)
+-- ---- the search for a copy among the first ones of i
+module _ (s : List ℕ) (at : ℕ) where
+  abbrev siger : ℕ → Siger
+  siger p = sigerOf s (at + p * 76)
 
-  pub copy-next : j < i → f (sigerOf s q) ≡ false → x ≡ any f (listOf (sigerOf s) 76 (i - (j + 1)) (q + 76))
-  unfolding any listOf
-  copy-next h d = let m : i - j ≡ suc (i - (j + 1)) = omega arith in e ∙ rw m (rw d)
+  abbrev sigers : ℕ → List Siger
+  sigers p = listOf (sigerOf s) 76 p at
 
-  pub copy-none : i ≤ j → x ≡ false
+  one-further : (n p : ℕ) → p < n → sigers (p + 1) ≡ sigers p ++ (siger p ∷ [])
+  one-further n p h = list-next (sigerOf s) 76 p at
+
+  pub firsts-none : firstsFrom s at 0 ≡ 0
+  firsts-none = none-yet sameWire siger sigers
+
+  -- before the first position there is none
+  pub none-before : (x : Siger) → any (sameWire x) (sigers 0) ≡ false
   unfolding any listOf
-  copy-none h = let m : i - j ≡ 0 = omega arith in e ∙ rw m
+  none-before x = refl
+
+  module _ (i set : ℕ) (e : set ≡ firstsFrom s at i) where
+    pub firsts-kept : any (sameWire (siger i)) (sigers i) ≡ true → set ≡ firstsFrom s at (i + 1)
+    firsts-kept f = e ∙ first-kept sameWire siger sigers i f
+
+    pub firsts-with : i < 64 → any (sameWire (siger i)) (sigers i) ≡ false → withFirst set i ≡ firstsFrom s at (i + 1)
+    firsts-with h f = rw e (first-more sameWire siger sigers i h f)
+
+    module _ (x : Siger) (j q : ℕ) (h : j < i) (k : q ≡ at + j * 76) where
+      pub list-copy : both (hasFirst set j) (sameWire x (sigerOf s q)) ≡ true → any (sameWire x) (sigers i) ≡ true
+      list-copy f = is-copy sameWire siger sigers wire-trans i (one-further i) x i j h (le-refl i) (rw (e, k) at f)
+
+      pub list-other : i ≤ 64 → any (sameWire x) (sigers j) ≡ false → both (hasFirst set j) (sameWire x (sigerOf s q)) ≡ false → any (sameWire x) (sigers (j + 1)) ≡ false
+      list-other w d f = no-copy sameWire siger sigers wire-trans i (one-further i) x i j h (le-refl i) w d (rw (e, k) at f)
 
 -- ---- the sets of places
 pub claim-is : (s : List ℕ) (p : ℕ) {i o : ℕ} → i ≡ wordOf s (p + 1) → o ≡ wordOf s (p + 6)

@@ -1,5 +1,5 @@
 -- Signatures as they stand in a list of bytes, 76 each: what one at a place says, and where a list of them stands.
-use Prim.Native.Nat.{ℕ, _+_}
+use Prim.Native.Nat.{ℕ, _+_, _*_}
 use mathlib.Core.List.{List}
 use mathlib.Core.Bool.{Bool}
 use lib.Dec.{leb, eqb}
@@ -7,8 +7,10 @@ use lib.ListN.{length, getD}
 use Rattle.lists.specs.Lists.{pick, both, either}
 use Rattle.format.specs.Parse.{Parse, got, bad, numAt}
 use Rattle.cursor.specs.Cursor.{rawOf}
-use Rattle.cursor.specs.Spans.{spanAt, manyOf}
+use Rattle.cursor.specs.Spans.{spanAt, listOf, manyOf}
+use Rattle.firsts.specs.Firsts.{firstOnes}
 use Rattle.verification.specs.declared.Siger.{Siger}
+use Rattle.verification.specs.Verification.{sameWire}
 use Rattle.wire.specs.declared.Span as S
 
 -- the u32 at a place, 0 where the bytes run out
@@ -36,6 +38,10 @@ sigerOf s at =
 -- n of them, one after another; none where they are more than 48 or the bytes run out
 abbrev pub sigersOf : List ℕ → ℕ → ℕ → List Siger
 sigersOf s n at = manyOf (sigerOf s) 76 48 s n at
+
+-- which of the first n signatures from a place on are first ones, no copy of one before them
+abbrev pub firstsFrom : List ℕ → ℕ → ℕ → ℕ
+firstsFrom s at n = firstOnes sameWire (λ p. sigerOf s (at + p * 76)) (λ p. listOf (sigerOf s) 76 p at) n
 
 -- whole and of its classes: the flag and both verdicts 0 or 1, the ondex 0 where the flag is
 unfoldable pub shapedAt : List ℕ → ℕ → Bool

@@ -3,10 +3,11 @@ ghost use mathlib.Core.Path.{_≡_};
 ghost use Prim.Native.Nat.{_+_, _*_, _≤_};
 ghost use lib.Dec.{eqb};
 ghost use lib.ListN.{length, take, drop};
-ghost use Rattle.lists.specs.Lists.{either, any, sameNumbers};
+ghost use Rattle.lists.specs.Lists.{both, either, any, sameNumbers};
+ghost use Rattle.firsts.specs.Firsts.{hasFirst};
 ghost use Rattle.cursor.specs.Spans.{listOf};
 ghost use Rattle.verification.specs.Verification.{sameFlag, sameWire, countedOf, claimOf};
-ghost use Rattle.wire.specs.Wire.{wordOf, sigerOf, sigersOf, shapedAt, sigersSpan, spanIs};
+ghost use Rattle.wire.specs.Wire.{wordOf, sigerOf, sigersOf, firstsFrom, shapedAt, sigersSpan, spanIs};
 use cursor::Num8;
 use cursor::Num32;
 use verification::Claim;
@@ -85,16 +86,12 @@ pub fn scan(s: &[u8], at: usize) -> Span
     Span::Of(n, first, p)
 }
 
-// Most signatures differ at once. Those that do not are compared to the end, many bytes at a time: where they first differ
-// makes no difference to the time.
+// Compared to the end, many bytes at a time: where two first differ makes no difference to the time.
 fn same_raw(s: &[u8], p: usize, q: usize) -> bool
     requires { ⌜ p + 64 ≤ length (now s) ⌝ }
     requires { ⌜ q + 64 ≤ length (now s) ⌝ }
     ensures { λ r. ⌜ r ≡ sameNumbers (take 64 (drop p (now (s .entry)))) (take 64 (drop q (now (s .entry)))) ⌝ }
 {
-    if s[p] != s[q] {
-        return false;
-    }
     let mut same = true;
     let mut i: usize = 0;
     while i < 64 {
@@ -131,16 +128,34 @@ fn same_at(s: &[u8], p: usize, q: usize) -> bool
     word(s, p + 6) == word(s, q + 6)
 }
 
-// Whether the signature at p is a copy of one of the i from a place on.
-fn copied(s: &[u8], at: usize, i: usize, p: usize) -> bool
+// Whether the signature at p is a copy of the earlier one at q, which has position j. Most differ in their first raw byte, so that is looked at first. Of the
+// others only first ones are compared: what equals a copy equals the one copied.
+fn is_copy(s: &[u8], set: u64, j: usize, q: usize, p: usize) -> bool
+    requires { ⌜ q + 76 ≤ length (now s) ⌝ }
     requires { ⌜ p + 76 ≤ length (now s) ⌝ }
+    ensures { λ r. ⌜ r ≡ both (hasFirst set j) (sameWire (sigerOf (now (s .entry)) p) (sigerOf (now (s .entry)) q)) ⌝ }
+{
+    if s[p + 10] != s[q + 10] {
+        return false;
+    }
+    if !firsts::has(set, j) {
+        return false;
+    }
+    same_at(s, p, q)
+}
+
+// Whether the signature at p is a copy of one of the i from a place on, of which the first ones are given.
+fn copied(s: &[u8], at: usize, i: usize, set: u64, p: usize) -> bool
+    requires { ⌜ i ≤ 48 ⌝ }
     requires { ⌜ at + i * 76 ≤ length (now s) ⌝ }
+    requires { ⌜ set ≡ firstsFrom (now s) at i ⌝ }
+    requires { ⌜ p + 76 ≤ length (now s) ⌝ }
     ensures { λ r. ⌜ r ≡ any (sameWire (sigerOf (now (s .entry)) p)) (listOf (sigerOf (now (s .entry))) 76 i at) ⌝ }
 {
     let mut q = at;
     let mut j: usize = 0;
     while j < i {
-        if same_at(s, p, q) {
+        if is_copy(s, set, j, q, p) {
             return true;
         }
         q += 76;
@@ -167,20 +182,6 @@ fn claim_at(s: &[u8], p: usize) -> Claim
     }
 }
 
-// The sets so far, of i signatures from a place on, with what the one behind them speaks for.
-fn counted_next(s: &[u8], at: usize, i: usize, c: Counted, keys: usize, next: usize) -> Counted
-    requires { ⌜ at + (i + 1) * 76 ≤ length (now s) ⌝ }
-    requires { ⌜ c ≡ countedOf keys next (listOf (sigerOf (now s)) 76 i at) ⌝ }
-    ensures { λ r. ⌜ r ≡ countedOf keys next (listOf (sigerOf (now (s .entry))) 76 (i + 1) at) ⌝ }
-{
-    let p = at + i * 76;
-    if copied(s, at, i, p) {
-        return c;
-    }
-    let claim = claim_at(s, p);
-    verification::counted_claim(c, claim, keys, next)
-}
-
 // The places that n signatures from a place on speak for; none where they are more than 48 or the bytes run out.
 pub fn count(s: &[u8], at: usize, n: usize, keys: usize, next: usize) -> Counted
     ensures { λ r. ⌜ r ≡ countedOf keys next (sigersOf (now (s .entry)) n at) ⌝ }
@@ -199,9 +200,17 @@ pub fn count(s: &[u8], at: usize, n: usize, keys: usize, next: usize) -> Counted
     if len - at < n * 76 {
         return c;
     }
+    let mut set: u64 = 0;
     let mut i: usize = 0;
     while i < n {
-        c = counted_next(s, at, i, c, keys, next);
+        let p = at + i * 76;
+        if copied(s, at, i, set, p) {
+            i += 1;
+            continue;
+        }
+        let claim = claim_at(s, p);
+        c = verification::counted_claim(c, claim, keys, next);
+        set = firsts::with(set, i);
         i += 1;
     }
     c

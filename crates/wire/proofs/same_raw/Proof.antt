@@ -1,10 +1,10 @@
 use mathlib.Core.Path.{_≡_, refl, sym, _∙_}
-use Prim.Native.Nat.{_+_, _≤_, _-_}
+use Prim.Native.Nat.{_≤_, _-_}
 use native.Mathlib.Omega.{arith}
 use borrow.Author.Needs.{needs}
 use lib.ListN.{take, drop}
 use Rattle.lists.specs.Lists.{both, sameNumbers}
-use Rattle.wire.proofs.Laws.{left, run-stop, run-more, run-over}
+use Rattle.wire.proofs.Laws.{left, run-more, run-over}
 use Rattle.wire.proofs.same_raw.Statement.{statement}
 use Rattle.wire.proofs.same_raw.Tie as tie
 
@@ -13,19 +13,6 @@ Inv-loop s p q same₀ i₀ same i = (i ≤ 64) × (sameNumbers (take 64 (drop p
 
 abbrev μ-loop : tie.MeasureT-loop
 μ-loop s p q same₀ i₀ same i = 64 - i
-
-shared-slice-read-if1 : tie.Need-shared-slice-read-if1 Inv-loop μ-loop
-shared-slice-read-if1 c = search needs
-
-shared-slice-read-if1-2 : tie.Need-shared-slice-read-if1-2 Inv-loop μ-loop
-shared-slice-read-if1-2 c = search needs
-
-returns : tie.Need-returns Inv-loop μ-loop
-returns c =
-    let a = c .before .before .before .args in
-    let p : a .p + 0 ≡ a .p = omega arith in
-    let q : a .q + 0 ≡ a .q = omega arith in
-    sym (run-stop 64 (a .s .now) (a .p) (a .q) 0 (omega arith) (omega arith) (omega arith) (rw (p, q) (c .if1 .taken)))
 
 loop-holds : tie.Need-loop-holds Inv-loop μ-loop
 loop-holds c = (search needs, refl)
@@ -51,13 +38,13 @@ loop-less c = search needs
 loop-again : tie.Need-loop-again Inv-loop μ-loop
 loop-again c =
     let l = c .before .before .before in
-    let a = l .before .before .before .before .args in
+    let a = l .before .args in
     (search needs, l .loop .inv .1 ∙ run-more 64 (a .s .now) (a .p) (a .q) (l .loop .i) (omega arith) (omega arith) (omega arith) (l .loop .same))
 
-returns-2 : tie.Need-returns-2 Inv-loop μ-loop
-returns-2 c =
+returns : tie.Need-returns Inv-loop μ-loop
+returns c =
     let l = c .before in
-    let a = l .before .before .before .before .args in
+    let a = l .before .args in
     sym (l .loop .inv .1 ∙ run-over 64 (a .s .now) (a .p) (a .q) (l .loop .i) (omega arith) (omega arith) (omega arith) (l .loop .same))
 
 pub same-raw-spec : {M : Type 1} → statement M
@@ -66,9 +53,6 @@ same-raw-spec =
     (tie.spec
     Inv-loop
     μ-loop
-    shared-slice-read-if1
-    shared-slice-read-if1-2
-    returns
     loop-holds
     add-same
     shared-slice-read-same
@@ -77,4 +61,4 @@ same-raw-spec =
     add-i
     loop-less
     loop-again
-    returns-2)
+    returns)
