@@ -6,11 +6,11 @@
 use mathlib.Core.Path.{_≡_, refl, sym, ap, _∙_}
 use mathlib.Core.Bool.{Bool, true, false, not}
 use mathlib.Core.List.{List, [], _∷_, _++_}
-use Prim.Native.Nat.{ℕ, zero, suc, _+_, _*_, _-_, _%_, _^_, _<_, _≤_}
-use native.Mathlib.Nat.{one-mul, zero-mul, zero-add, add-zero, mod-eq-of-lt}
+use Prim.Native.Nat.{ℕ, zero, suc, _+_, _*_, _-_, _^_, _<_, _≤_}
+use native.Mathlib.Nat.{one-mul, zero-mul, zero-add, add-zero}
 use native.Mathlib.Numerals.{add-one}
 use native.Mathlib.Omega.{arith}
-use lib.Pow.{pow-lt, pow-pos}
+use lib.Pow.{pow-pos}
 use lib.Bits.{bitOr, or-block, or-zero-r}
 use borrow.Author.Tests.{lt-ltb}
 use Rattle.lists.specs.Lists.{both, either, any}
@@ -18,10 +18,6 @@ use Rattle.lists.proofs.Facts.{any-append, both-true, clash}
 use Rattle.places.specs.Places.{setOf}
 use Rattle.places.proofs.Laws.{set-lt, bit-set, either-true, either-false}
 use Rattle.firsts.specs.Firsts.{hasFirst, withFirst, firstOnes}
-
--- ---- the code's shift
-pub shifted : (p : ℕ) → p < 64 → (1 * 2 ^ p) % 18446744073709551616 ≡ 2 ^ p
-shifted p h = rw one-mul (mod-eq-of-lt (pow-lt h))
 
 -- ---- one more element at the end
 pub any-more : {A : Type 0} (f : A → Bool) (xs : List A) (x : A) → any f (xs ++ (x ∷ [])) ≡ either (any f xs) (f x)

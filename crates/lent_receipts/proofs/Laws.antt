@@ -16,6 +16,7 @@ use lib.ListN.{length, length-take, take, getD}
 use lib.Seq.{take-suc, take-all}
 use borrow.Author.Tests.{le-leb, lt-leb, lt-ltb, le-ltb}
 use Rattle.lists.specs.Lists.{both, any, all}
+use Rattle.lists.proofs.Facts.{both-on, both-assoc}
 use Rattle.answer.specs.Answer.{refused}
 use Rattle.places.specs.Places.{placesIn}
 use Rattle.places.proofs.Laws.{places-set}
@@ -64,16 +65,8 @@ module _ (toad : ℕ) (t : Tally) where
 -- ---- the tally of a list's first i
 all-more : {A : Type 0} (f : A → Bool) (xs : List A) (x : A) → all f (xs ++ (x ∷ [])) ≡ both (all f xs) (f x)
 unfolding all
-all-more f [] x = both-true (f x)
-  where
-    both-true : (b : Bool) → both b true ≡ b
-    both-true true = refl
-    both-true false = refl
+all-more f [] x = both-on (f x)
 all-more f (y ∷ ys) x = ap (both (f y)) (all-more f ys x) ∙ both-assoc (f y) (all f ys) (f x)
-  where
-    both-assoc : (a b c : Bool) → both a (both b c) ≡ both (both a b) c
-    both-assoc true b c = refl
-    both-assoc false b c = refl
 
 module _ (witnesses : ℕ) (xs : List Siger) where
   abbrev pub tallyAt : ℕ → Tally

@@ -18,6 +18,18 @@ pub both-true : (a b : Bool) → both a b ≡ true → (a ≡ true) × (b ≡ tr
 both-true true b e = (refl, e)
 both-true false b e = clash (sym e)
 
+pub both-on : (a : Bool) → both a true ≡ a
+both-on true = refl
+both-on false = refl
+
+pub both-off : (a : Bool) → both a false ≡ false
+both-off true = refl
+both-off false = refl
+
+pub both-assoc : (a b c : Bool) → both a (both b c) ≡ both (both a b) c
+both-assoc true b c = refl
+both-assoc false b c = refl
+
 pub both-in : (a b : Bool) → a ≡ true → b ≡ true → both a b ≡ true
 both-in a b p q = rw (p, q)
 

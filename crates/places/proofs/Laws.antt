@@ -19,7 +19,7 @@ use lib.Bits.{bitOr, or-block, or-zero-r}
 use lib.Count.{ones, ones-cat}
 use borrow.Author.Tests.{lt-ltb, le-ltb, ltb-true, ltb-false, eq-eqb, ne-eqb, eqb-true, eqb-false}
 use Rattle.lists.specs.Lists.{pick, both, either, any}
-use Rattle.lists.proofs.Facts.{any-append}
+use Rattle.lists.proofs.Facts.{any-append, both-on, both-off}
 use Rattle.places.specs.Places.{chosen, among, setOf, bitAt, placesIn, withPlace, cutTo}
 
 abbrev bit : Bool → ℕ
@@ -213,23 +213,15 @@ among-chosen (suc n) f k =
     last true = either-false (eqb k n)
     last false = refl
 
-    both-true : (x : Bool) → both x true ≡ x
-    both-true true = refl
-    both-true false = refl
-
-    both-false : (x : Bool) → both x false ≡ false
-    both-false true = refl
-    both-false false = refl
-
     by-test : (a b : Bool) → eqb k n ≡ a → ltb k n ≡ b → either (below n f k) (both (f n) (eqb k n)) ≡ below (suc n) f k
     by-test true b g e =
         let h = eqb-true k n g in
-        rw (g, le-ltb k n (omega arith), lt-ltb k (suc n) (omega arith)) (both-true (f n) ∙ ap f (sym h))
-    by-test false true g e = let h = ltb-true k n e in rw (e, g, lt-ltb k (suc n) (omega arith), both-false (f n)) (either-false (f k))
+        rw (g, le-ltb k n (omega arith), lt-ltb k (suc n) (omega arith)) (both-on (f n) ∙ ap f (sym h))
+    by-test false true g e = let h = ltb-true k n e in rw (e, g, lt-ltb k (suc n) (omega arith), both-off (f n)) (either-false (f k))
     by-test false false g e =
         let h = ltb-false k n e in
         let d = eqb-false k n g in
-        rw (e, g, le-ltb k (suc n) (omega arith)) (both-false (f n))
+        rw (e, g, le-ltb k (suc n) (omega arith)) (both-off (f n))
 
 -- ---- a list of places, one by one
 among-more : (ps : List ℕ) (p k : ℕ) → with p (among ps) k ≡ among (ps ++ (p ∷ [])) k
@@ -250,5 +242,5 @@ pub among-all : (ps : List ℕ) (i : ℕ) → length ps ≤ i → setOf 16 (amon
 among-all ps i h = rw (take-all i ps h)
 
 -- ---- the code's shift
-pub shifted : (p : ℕ) → p < 16 → (1 * 2 ^ p) % 65536 ≡ 2 ^ p
-shifted p h = rw one-mul (mod-eq-of-lt (pow-lt h))
+pub shifted : (w p : ℕ) → p < w → (1 * 2 ^ p) % 2 ^ w ≡ 2 ^ p
+shifted w p h = rw one-mul (mod-eq-of-lt (pow-lt h))

@@ -20,7 +20,7 @@ use mir.Val.{Val}
 use denote.Laws.{Is}
 use Rattle.lists.specs.Lists.{pick, both, either, any, all, sameNumbers}
 use Rattle.lists.specs.declared.Found.the-variants.{At, Nothing}
-use Rattle.lists.proofs.Facts.{both-true, both-in, picks, same-numbers, clash}
+use Rattle.lists.proofs.Facts.{both-true, both-assoc, both-in, picks, same-numbers, clash}
 use Rattle.lists.proofs.Padding.{is-padded}
 use Rattle.places.specs.Places.{setOf, withPlace}
 use Rattle.places.proofs.Laws.{with, with-set, set-same, set-none, either-false}
@@ -48,10 +48,6 @@ both-left a b e = rw e
 both-right : (a b : Bool) → b ≡ false → both a b ≡ false
 both-right true b e = e
 both-right false b e = refl
-
-both-assoc : (a b c : Bool) → both a (both b c) ≡ both (both a b) c
-both-assoc true b c = refl
-both-assoc false b c = refl
 
 -- ---- a place within a list
 module _ (k n : ℕ) where

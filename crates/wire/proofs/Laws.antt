@@ -15,7 +15,7 @@ use lib.ListN.{length, take, drop, getD, length-take, length-drop}
 use lib.Seq.{getD-take, getD-drop}
 use borrow.Author.Tests.{le-leb, lt-leb, eq-eqb, ne-eqb, leb-true, leb-false}
 use Rattle.lists.specs.Lists.{pick, both, either, any, sameNumbers}
-use Rattle.lists.proofs.Facts.{both-true}
+use Rattle.lists.proofs.Facts.{both-true, both-on, both-off}
 use Rattle.lists.proofs.Walks.{same-stop, same-more, same-over}
 use Rattle.format.specs.Parse.{Parse, got, bad, bind, byteAt, beFrom, numAt, rawAt}
 use Rattle.format.specs.Fields.{flagAt, ondexAt, sigerAt, sigersAt}
@@ -100,14 +100,6 @@ module _ (n : ℕ) (s : List ℕ) (p q i : ℕ) (hp : p + n ≤ length s) (hq : 
       let a : length (take n (drop p s)) ≤ i = omega (arith, run-length p hp) in
       let b : length (take n (drop q s)) ≤ i = omega (arith, run-length q hq) in
       same-over (take n (drop p s)) (take n (drop q s)) i so a b
-
-both-off : (a : Bool) → both a false ≡ false
-both-off true = refl
-both-off false = refl
-
-both-on : (a : Bool) → both a true ≡ a
-both-on true = refl
-both-on false = refl
 
 pub other-too : (a b : Bool) → b ≡ false → both a b ≡ false
 other-too a b e = rw (e, both-off a)
