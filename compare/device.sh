@@ -1,7 +1,7 @@
 # The device's archive beside the given Rust: sourced by `run`. The Rust's part writes calls with what it expects
 # (device/script.rs), the C part makes them (device/replay.c). examples/kit.sh, which builds and runs C over the x86-64
 # archive on any machine, has names of its own, so it is sourced in a shell of its own.
-faults_in_calls=19
+faults_in_calls=21
 
 with_kit() { (cd "$top" && . examples/kit.sh && "$@"); }
 

@@ -1,8 +1,8 @@
 #!/usr/bin/env python3
 # Document 01 as a plain program: a second opinion on the oracle, and a program to try `check` with.
 #
-# Written from document 01's text and notes/READINGS.md, not from the Rust. The same flags as
-# the oracle: --states, --fold.
+# Written from document 01's text, document 02's request 2 and notes/READINGS.md, not from the Rust.
+# The same flags as the oracle: --states, --fold.
 import sys
 
 TOP = (1 << 128) - 1
@@ -129,23 +129,24 @@ def save(state):
 
 # ---- Thresholds, counts, lists ----
 
-def satisfied(threshold, places):
+def enough(clause, base, places):
+    # With D the product of the signed denominators and N the numerator over D, a clause
+    # passes exactly when no denominator is 0 and D <= N < 2^64.
+    top, bottom = 0, 1
+    for place, (n, d) in enumerate(clause):
+        if base + place in places:
+            top, bottom = top * d + n * bottom, bottom * d
+    return all(d for _, d in clause) and bottom <= top < 1 << 64
+
+
+def check_threshold(threshold, places, number):
+    """a is how many places there are, b the first clause that is short, from 1, or 0 for none to name."""
     if isinstance(threshold, int):
-        return len(places) >= threshold
-    base = 0
-    for clause in threshold:
-        # With D the product of the signed denominators and N the numerator over D, a clause
-        # passes exactly when no denominator is 0 and D <= N < 2^64.
-        top, bottom = 0, 1
-        for place, (n, d) in enumerate(clause):
-            if d == 0:
-                return False
-            if base + place in places:
-                top, bottom = top * d + n * bottom, bottom * d
-        if not bottom <= top < 1 << 64:
-            return False
-        base += len(clause)
-    return len(threshold) > 0
+        return refuse(len(places) < threshold, number, len(places))
+    refuse(not threshold, number, len(places))
+    bases = [sum(map(len, threshold[:k])) for k in range(len(threshold))]
+    short = [k + 1 for k, clause in enumerate(threshold) if not enough(clause, bases[k], places)]
+    refuse(short, number, len(places), min(short, default=0))
 
 
 def shape(threshold, keys):
@@ -175,7 +176,7 @@ def counted(signatures, places):
 def check_signatures(signatures, keys, threshold):
     good = counted(signatures, len(keys))
     places = {wire[1] for wire in good}
-    refuse(not satisfied(threshold, places), 27, len(places))
+    check_threshold(threshold, places, 27)
     return good
 
 
@@ -242,7 +243,7 @@ def take_rotation(state, r):
     good = check_signatures(r["signatures"], r["keys"], r["threshold"])
     exposed = {wire[2] for wire, matches in good.items()
                if matches and wire[2] is not None and wire[2] < len(state["next"])}
-    refuse(not satisfied(state["next_threshold"], exposed), 28, len(exposed))
+    check_threshold(state["next_threshold"], exposed, 28)
     removals, additions, current = r["removals"], r["additions"], state["witnesses"]
     duplicate(removals, 2)
     duplicate(additions, 3)

@@ -39,7 +39,9 @@ extern "C" {
 /* Measured by measure/stack, rounded up; it is no part of what is proved. */
 #define KEYSTATE_STACK_BYTES 12288
 
-/* The numbers. a and b are the details: 0 unless named here. */
+/* The numbers. a and b are the details: 0 unless named here. b of 27 and 28 is the first clause of a weighted threshold that is not
+ * satisfied, counted from 1; 0 where there is none to name, since the threshold is a number or has no clauses. 27 speaks of the
+ * record's own threshold (of the state's for an interaction), 28 of the next threshold that the state holds. */
 enum keystate_number {
   KEYSTATE_ACCEPTED = 0,
   KEYSTATE_TRUNCATED = 1,                              /* fewer bytes than the record says; or `used` above the buffer's size */
@@ -68,8 +70,8 @@ enum keystate_number {
   KEYSTATE_EXCEEDS_KEY_COUNT = 24,                     /* a: required, b: keys */
   KEYSTATE_EMPTY_CLAUSE_LIST = 25,
   KEYSTATE_EMPTY_CLAUSE = 26,
-  KEYSTATE_MISSING_SIGNATURES = 27,                    /* a: how many keys signed */
-  KEYSTATE_PRIOR_NEXT_THRESHOLD_UNSATISFIED = 28,      /* a: how many committed keys were shown */
+  KEYSTATE_MISSING_SIGNATURES = 27,                    /* a: how many keys signed, b: the clause that is short */
+  KEYSTATE_PRIOR_NEXT_THRESHOLD_UNSATISFIED = 28,      /* a: how many committed keys were shown, b: as in 27 */
   KEYSTATE_NON_TRANSFERABLE_COMMITS_NEXT_KEYS = 29,    /* reserved: never answered, since 12 to 15 come first (docs/NUMBERS.md) */
   KEYSTATE_WITNESS_THRESHOLD_ZERO_WITH_WITNESSES = 30, /* a: witnesses */
   KEYSTATE_WITNESS_THRESHOLD_EXCEEDED = 31,            /* a: the threshold, b: witnesses */

@@ -19,6 +19,8 @@ static uint8_t go_wrong(uint8_t n, uint8_t *state, size_t capacity, size_t *used
   if (fault(11) && n == 41) state[before] ^= 1;
   if (fault(12) && n == 41) d[KEYSTATE_A_LOW] -= 1;
   if (fault(13) && n == 1 && before > capacity) n = 3;
+  if (fault(20) && n == 27) d[KEYSTATE_B_LOW] = 0;
+  if (fault(21) && n == 28) d[KEYSTATE_B_LOW] -= d[KEYSTATE_B_LOW] > 0;
   return n;
 }
 

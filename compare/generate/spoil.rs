@@ -65,7 +65,7 @@ fn signatures(rng: &mut Rng, list: &mut Vec<Signature>, places: usize, ondexes: 
         let places = places as u32;
         rng.pick(&[places, places.saturating_sub(1), places + 1, 0, 16, 256, 65_536, u32::MAX, 1 << 31])
     };
-    match rng.below(22) {
+    match rng.below(24) {
         0 => list.clear(),
         1 | 2 if !list.is_empty() => drop(list.remove(at)),
         3 | 4 if !list.is_empty() => list[at].verified = false,
@@ -143,6 +143,16 @@ fn signatures(rng: &mut Rng, list: &mut Vec<Signature>, places: usize, ondexes: 
                 }
                 list.push(one);
             }
+        }
+        21 if places > 0 => {
+            // From a key on nobody signs, so that a later clause is the first that is short.
+            let from = rng.below(places) as u32;
+            list.iter_mut().for_each(|one| one.verified &= one.index < from);
+        }
+        22 if ondexes > 0 => {
+            // The same of what was promised.
+            let from = rng.below(ondexes) as u32;
+            list.iter_mut().for_each(|one| one.matches &= one.ondex < Some(from));
         }
         _ => rng.shuffle(list),
     }

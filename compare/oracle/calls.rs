@@ -1,7 +1,8 @@
 //! Direct calls of the given Rust in a small text syntax: one request a line, one answer a line.
 //!
 //! An answer begins with number, a and b as keyreport writes them; a value follows if there
-//! is one. `sorted`, `any` and `attainable` answer only `yes` or `no`.
+//! is one. `attainable` answers only `yes` or `no`; `sorted` and `any` `yes`, or `no` and the
+//! clause that is short (clause.rs).
 //!
 //! ITEM is a code letter and hex digits, filled with zeros on the left: `B1`, `D0a`, `E`.
 //! LIST is items with commas between, or `-`. THRESHOLD is `s2`, or `w` and clauses with `;`
@@ -33,7 +34,7 @@ use keri_events::{Toad, ToadError};
 use crate::holder::Holder;
 use crate::reader::{self, Head};
 use crate::record::*;
-use crate::{hex, rust};
+use crate::{clause, hex, rust};
 
 /// The answer to one request. A request that is not in the syntax is a fault: it panics.
 pub fn answer(line: &str) -> String {
@@ -42,12 +43,14 @@ pub fn answer(line: &str) -> String {
         ["ample", n] => toad(Toad::ample(parse(n))),
         ["exact", value, n] => toad(Toad::exact(parse(value), parse(n))),
         ["sorted", shape, ref places @ ..] => {
-            let places: Vec<u32> = places.iter().map(|place| parse(place)).collect();
-            yes(rust::threshold(&threshold(shape)).satisfied_by_sorted_unique(&places))
+            let (shape, places) = (threshold(shape), numbers(places));
+            let met = rust::threshold(&shape).satisfied_by_sorted_unique(&places);
+            judged(met, clause::of_sorted(&shape, &places))
         }
         ["any", shape, ref places @ ..] => {
-            let places = places.iter().map(|place| parse::<u32>(place));
-            yes(rust::threshold(&threshold(shape)).satisfied_by(places))
+            let (shape, places) = (threshold(shape), numbers(places));
+            let met = rust::threshold(&shape).satisfied_by(places.iter().copied());
+            judged(met, clause::of_any(&shape, &places))
         }
         ["attainable", shape, keys] => {
             yes(rust::threshold(&threshold(shape)).satisfied_by(0..parse::<u32>(keys)))
@@ -102,22 +105,28 @@ pub fn answer(line: &str) -> String {
             numbered(event.check_identity().map_err(|error| rust::identity_number(&error)))
         }
         ["signatures", keys, shape, list] => {
-            let (keys, shape) = (rust::keys(&items(keys)), rust::threshold(&threshold(shape)));
-            let list = signatures(list);
-            let verified = Authority::new(&keys, &shape).verify(b"", &rust::sigers(&list)).map(drop);
-            numbered(verified.map_err(|rejection| rust::number(&rejection)))
+            let (keys, shape, list) = (items(keys), threshold(shape), signatures(list));
+            let verified = Authority::new(&rust::keys(&keys), &rust::threshold(&shape))
+                .verify(b"", &rust::sigers(&list))
+                .map(drop);
+            let b = clause::of_signatures(&keys, &shape, &list);
+            numbered(verified.map_err(|rejection| Answer { b, ..rust::number(&rejection) }))
         }
         ["opening", next, next_shape, keys, shape, list] => {
-            let (keys, shape) = (rust::keys(&items(keys)), rust::threshold(&threshold(shape)));
-            let next = rust::digests(&items(next));
-            let next_shape = rust::threshold(&threshold(next_shape));
-            let list = signatures(list);
-            let opened = Commitment::new(&next, &next_shape).verify_opening(
-                &Authority::new(&keys, &shape),
-                b"",
-                &rust::sigers(&list),
-            );
-            numbered(opened.map_err(|rejection| rust::number(&rejection)))
+            let (next, next_shape) = (items(next), threshold(next_shape));
+            let (keys, shape, list) = (items(keys), threshold(shape), signatures(list));
+            let opened = Commitment::new(&rust::digests(&next), &rust::threshold(&next_shape))
+                .verify_opening(
+                    &Authority::new(&rust::keys(&keys), &rust::threshold(&shape)),
+                    b"",
+                    &rust::sigers(&list),
+                );
+            numbered(opened.map_err(|rejection| match rust::number(&rejection) {
+                answer @ Answer { number: 27, .. } => {
+                    Answer { b: clause::of_signatures(&keys, &shape, &list), ..answer }
+                }
+                answer => Answer { b: clause::of_opening(&next, &next_shape, &keys, &list), ..answer },
+            }))
         }
         ["receipts", value, witnesses, list] => {
             let witnesses = rust::witnesses(&items(witnesses));
@@ -156,6 +165,10 @@ fn toad(result: Result<Toad, ToadError>) -> String {
     }
 }
 
+fn judged(met: bool, clause: u128) -> String {
+    if met { "yes".into() } else { format!("no {clause}") }
+}
+
 fn yes(verdict: bool) -> String {
     if verdict { "yes".into() } else { "no".into() }
 }
@@ -170,6 +183,10 @@ fn wide(count: usize) -> u128 {
 
 pub(crate) fn parse<T: core::str::FromStr>(word: &str) -> T {
     word.parse().unwrap_or_else(|_| panic!("not a number: {word}"))
+}
+
+fn numbers(words: &[&str]) -> Vec<u32> {
+    words.iter().map(|word| parse(word)).collect()
 }
 
 fn parts(list: &str) -> impl Iterator<Item = &str> {

@@ -3,7 +3,7 @@ use keri::{KeyState, KeyStateSnapshot, Rejection, Signed};
 use keri_events::KeriEvent;
 
 use crate::record::*;
-use crate::{rust, writer};
+use crate::{clause, rust, writer};
 
 #[derive(Clone)]
 pub struct Holder {
@@ -69,7 +69,32 @@ impl Holder {
                 self.state = Some(next);
                 Answer::ACCEPTED
             }
-            Err(rejection) => rust::number(&rejection),
+            Err(rejection) => {
+                let answer = rust::number(&rejection);
+                Answer { b: self.clause(record, &answer).unwrap_or(answer.b), ..answer }
+            }
+        }
+    }
+
+    /// b of 27 and 28 is ours: the clause that is short, of the event's own threshold, of the held one
+    /// for an interaction, and for 28 of the one that was promised.
+    fn clause(&self, record: &Record, answer: &Answer) -> Option<u128> {
+        let held = self.state();
+        match (answer.number, record, held) {
+            (27, Record::Inception(r), _) => {
+                Some(clause::of_signatures(&r.keys, &r.threshold, &r.signatures))
+            }
+            (27, Record::Rotation(r), _) => {
+                Some(clause::of_signatures(&r.keys, &r.threshold, &r.signatures))
+            }
+            (27, Record::Interaction(r), Some(held)) => {
+                Some(clause::of_signatures(&held.keys, &held.threshold, &r.signatures))
+            }
+            (28, Record::Rotation(r), Some(held)) => {
+                let (next, shape) = (&held.next, &held.next_threshold);
+                Some(clause::of_opening(next, shape, &r.keys, &r.signatures))
+            }
+            _ => None,
         }
     }
 

@@ -1,5 +1,6 @@
 //! The oracle's library: house records in, the given Rust's answers and states out.
 pub mod calls;
+pub mod clause;
 pub mod encode;
 pub mod holder;
 pub mod reader;

@@ -157,17 +157,36 @@ fn longest_bodies() {
 #[test]
 fn starred_thresholds() {
     says("yes", "sorted w1/2,1/2,1/2 0 2");
-    says("no", "sorted w1/2,1/2,1/2 1");
-    says("no", "sorted w1/2,1/2;1/1 0 1");
+    says("no 1", "sorted w1/2,1/2,1/2 1");
+    says("no 2", "sorted w1/2,1/2;1/1 0 1");
     says("yes", "sorted w1/2,1/2;1/1 0 1 2");
-    says("no", "sorted w1/1,1/0 0");
+    says("no 1", "sorted w1/1,1/0 0");
     let heavy = "w1/1,1/9223372036854775808,1/9223372036854775808";
     says("yes", &format!("sorted {heavy} 0"));
     says("yes", &format!("sorted {heavy} 0 1"));
-    says("no", &format!("sorted {heavy} 0 1 2"));
+    says("no 1", &format!("sorted {heavy} 0 1 2"));
     says("yes", "sorted s2 0 5");
-    says("no", "sorted s1 2 0");
+    says("no 0", "sorted s1 2 0");
     says("yes", "any s1 2 0");
+}
+
+/// Document 02, request 2: "the first unsatisfied clause, counted from 1, or 0 where there is none to
+/// name (satisfied, a simple threshold, no clauses, or a list not strictly rising)".
+#[test]
+fn the_first_unsatisfied_clause() {
+    says("no 1", "sorted w1/2,1/2;1/2,1/2,1/2 0 2 3");
+    says("no 2", "sorted w1/2,1/2;1/2,1/2,1/2 0 1 4");
+    says("no 1", "any w1/2,1/2;1/2,1/2,1/2 2 0");
+    says("no 2", "sorted w1/1;;1/1 0");
+    says("no 0", "sorted s2 0");
+    says("no 0", "sorted w- 0");
+    says("no 0", "sorted w1/2,1/2;1/1 1 0");
+    says("no 2", "any w1/2,1/2;1/1 1 0");
+    says("27 1 2", "signatures D1,D2 w1/1;1/1 65.0.-.1.1.0");
+    says("27 1 0", "signatures D1,D2 s2 65.0.-.1.1.0");
+    says("28 1 2", "opening E1,E2 w1/1;1/1 D1 w1/1 65.0.0.1.1.1");
+    says("28 1 1", "opening E1,E2 w1/1;1/1 D1 w1/1 65.0.1.1.1.1");
+    says("27 1 2", "opening E1,E2 w1/1;1/1 D1,D2 w1/1;1/1 65.0.1.1.1.1");
 }
 
 #[test]

@@ -73,6 +73,22 @@ static void inception(struct record *r) {
   end(r, 1, 0);
 }
 
+/* A teacher's clause and a pupil's clause, of one key each: both keys have to sign, and only the teacher's does. */
+static void group(struct record *r) {
+  begin(r, "IC", 0, 1);
+  put(r, 2, 1);
+  put_item(r, 'D', 10);
+  put_item(r, 'D', 11);
+  put(r, 0x01020101, 4); /* with weights, two clauses, of one weight each */
+  for (int i = 0; i < 4; i++) put(r, 1, 8); /* 1/1 and 1/1 */
+  put_list(r, 'E', 20);
+  put_threshold(r);
+  put(r, 0, 1); /* no witnesses */
+  put(r, 0, 4);
+  put(r, 0, 1); /* no config */
+  end(r, 1, 0);
+}
+
 static void interaction(struct record *r, uint64_t sn, uint8_t said, uint8_t prior, int verified) {
   begin(r, "IX", sn, said);
   put_item(r, 'E', prior);
@@ -113,6 +129,8 @@ int main(void) {
   ask();
   interaction(&incoming, 1, 2, 1, 1);
   offer("interaction on nothing");
+  group(&incoming);
+  offer("group, no pupil has signed"); /* b: the second clause */
   inception(&incoming);
   offer("inception");
   interaction(&incoming, 1, 2, 1, 0);

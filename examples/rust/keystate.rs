@@ -43,6 +43,12 @@ impl Refusal {
     pub fn name(&self) -> &'static str {
         NAMES.get(usize::from(self.number)).copied().unwrap_or("?")
     }
+
+    /// Of 27 and 28 the first clause that is not satisfied, counted from 1, where there is one to name. 27 speaks of the record's
+    /// own threshold (of the state's for an interaction), 28 of the next threshold that the state holds.
+    pub fn short_clause(&self) -> Option<u128> {
+        Some(self.b).filter(|b| matches!(self.number, 27 | 28) && *b != 0)
+    }
 }
 
 impl fmt::Display for Refusal {

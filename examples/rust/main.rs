@@ -9,6 +9,7 @@ fn main() {
     let mut state = State::from_bytes(&[]).expect("no bytes are no state");
     let stream = [
         records::interaction(1, 2, 1, true),
+        records::group(),
         records::inception(),
         records::interaction(1, 2, 1, false),
         records::interaction(1, 2, 1, true),

@@ -1,4 +1,4 @@
-// Records of one key, made for the example and the tests. A device gets its records over the air.
+// Records of one key, and one of a group, made for the example and the tests. A device gets its records over the air.
 
 fn item(code: u8, which: u8) -> Vec<u8> {
     let mut item = vec![which; 33];
@@ -26,6 +26,15 @@ fn record(mark: &[u8; 2], sn: u128, said: u8, middle: &[Vec<u8>], verdicts: [u8;
 pub fn inception() -> Vec<u8> {
     let none = vec![0, 0, 0, 0, 0, 0]; // witnesses, toad, config
     record(b"IC", 0, 1, &[list(b'D', 10), threshold(), list(b'E', 20), threshold(), none], [1, 0])
+}
+
+/// A teacher's clause and a pupil's clause, of one key each: both keys have to sign, and only the teacher's does.
+pub fn group() -> Vec<u8> {
+    let keys = [vec![2], item(b'D', 10), item(b'D', 11)].concat();
+    let one = [1u64.to_be_bytes(), 1u64.to_be_bytes()].concat();
+    let clauses = [vec![1, 2, 1, 1], one.clone(), one].concat();
+    let none = vec![0, 0, 0, 0, 0, 0]; // witnesses, toad, config
+    record(b"IC", 0, 1, &[keys, clauses, list(b'E', 20), threshold(), none], [1, 0])
 }
 
 pub fn interaction(sn: u128, said: u8, prior: u8, verified: bool) -> Vec<u8> {

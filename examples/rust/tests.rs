@@ -3,7 +3,7 @@ use super::*;
 
 #[path = "records.rs"]
 mod records;
-use records::{inception, interaction, rotation};
+use records::{group, inception, interaction, rotation};
 
 fn refused(number: u8, a: u128, b: u128) -> Result<(), Refusal> {
     Err(Refusal { number, a, b })
@@ -23,6 +23,18 @@ fn a_life() {
     assert_eq!(state.offer(&rotation(2, 3, 1)), refused(36, 0, 0));
     assert_eq!(state.offer(&rotation(2, 3, 2)), Ok(()));
     assert_eq!(state.sn(), Some(2));
+}
+
+#[test]
+fn the_clause_that_is_short() {
+    let mut state = State::EMPTY;
+    let refusal = state.offer(&group()).unwrap_err();
+    assert_eq!((refusal.number, refusal.a, refusal.b), (27, 1, 2));
+    assert_eq!(refusal.short_clause(), Some(2));
+    // A number as threshold has no clause to name, and b of other refusals names none.
+    state.offer(&inception()).unwrap();
+    assert_eq!(state.offer(&interaction(1, 2, 1, false)).unwrap_err().short_clause(), None);
+    assert_eq!(state.offer(&interaction(3, 2, 1, true)).unwrap_err().short_clause(), None);
 }
 
 #[test]

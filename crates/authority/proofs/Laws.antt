@@ -16,7 +16,8 @@ use Rattle.items.specs.Items.{listed}
 use Rattle.places.specs.Places.{bitAt, placesIn, among}
 use Rattle.places.proofs.Laws.{among-chosen, places-set}
 use Rattle.threshold.specs.declared.Threshold.{Threshold}
-use Rattle.threshold.specs.Threshold.{judged, isMet, satisfied}
+use Rattle.threshold.specs.declared.Judgement.the-variants.{Met, Short}
+use Rattle.threshold.specs.Threshold.{judged, satisfied}
 use Rattle.threshold.proofs.Laws.{judged-same}
 use Rattle.verification.specs.declared.Sigers.{Sigers}
 use Rattle.verification.specs.declared.Counted.{Counted}
@@ -24,7 +25,7 @@ use Rattle.verification.specs.Verification.{signatures, verifiedAt, exposedAt, 
 use Rattle.authority.specs.declared.Authority.{Authority}
 use Rattle.authority.specs.declared.Commitment.{Commitment}
 use Rattle.authority.specs.declared.Witnessing.{Witnessing}
-use Rattle.authority.specs.Authority.{quorum, receipts, exposedBy, verifies, opens, witnessed}
+use Rattle.authority.specs.Authority.{tooFew, quorum, receipts, exposedBy, verifies, opens, witnessed}
 
 -- ---- how many items a list has
 module _ (l : Items) (h : length (l .at) ≡ 16) where
@@ -40,18 +41,18 @@ module _ (which : ℕ) (t : Threshold) (set n : ℕ) (h : length (t .weights) �
   same-judged =
       rw e (judged-same (bitAt set) (among (placesIn set)) (λ k l. sym (among-chosen 16 (bitAt set) k ∙ rw (lt-ltb k 16 l))) t (length (placesIn set)) (omega arith))
 
-  pub quorum-met : isMet (judged t n (bitAt set)) ≡ true → accepted ≡ quorum which t (placesIn set)
+  pub quorum-met : Met ≡ judged t n (bitAt set) → accepted ≡ quorum which t (placesIn set)
   unfolding quorum
-  quorum-met m = rw (sym (ap isMet same-judged) ∙ m)
+  quorum-met m = rw (← m ∙ same-judged)
 
-  pub quorum-short : isMet (judged t n (bitAt set)) ≡ false → refused which n 0 ≡ quorum which t (placesIn set)
+  pub quorum-short : (clause : ℕ) → Short clause ≡ judged t n (bitAt set) → refused which n clause ≡ quorum which t (placesIn set)
   unfolding quorum
-  quorum-short m = rw (sym (ap isMet same-judged) ∙ m, e)
+  quorum-short clause m = rw (← m ∙ same-judged, e)
 
 -- a quorum that passes is nothing but accepted
-pub clean-quorum : (which : ℕ) (t : Threshold) (ps : List ℕ) → passes (refused which (length ps) 0) ≡ false → Clean (quorum which t ps)
+pub clean-quorum : (which : ℕ) (t : Threshold) (ps : List ℕ) → passes (tooFew which t ps) ≡ false → Clean (quorum which t ps)
 unfolding quorum
-clean-quorum which t ps f = clean-unless (satisfied t ps) (refused which (length ps) 0) f
+clean-quorum which t ps f = clean-unless (satisfied t ps) (tooFew which t ps) f
 
 -- ---- receipts
 pub receipts-none : (toad : ℕ) (ps : List ℕ) → toad ≡ 0 → accepted ≡ receipts toad ps

@@ -1,4 +1,5 @@
 -- 27, 28 and 32 as sizes of sets of places. "27, 28: distinct counted. 32: valid, required." "Toad 0 reads no receipts."
+-- Document 02, request 2: "The signature and commitment counts pass it on: b of 27 and 28 is this number from now on."
 use Prim.Native.Nat.{ℕ}
 use mathlib.Core.List.{List, [], _∷_}
 use lib.Dec.{eqb, leb}
@@ -8,7 +9,7 @@ use Rattle.answer.specs.declared.Answer.{Answer}
 use Rattle.answer.specs.Answer.{refused, accepted, firstRefusal}
 use Rattle.items.specs.Items.{listed}
 use Rattle.threshold.specs.declared.Threshold.{Threshold}
-use Rattle.threshold.specs.Threshold.{satisfied}
+use Rattle.threshold.specs.Threshold.{judgedBy, satisfied, clauseNamed}
 use Rattle.verification.specs.declared.Siger.{Siger}
 use Rattle.verification.specs.declared.Sigers.{Sigers}
 use Rattle.verification.specs.Verification.{signatures, verifiedPlaces, exposedPlaces}
@@ -16,9 +17,12 @@ use Rattle.authority.specs.declared.Authority.{Authority}
 use Rattle.authority.specs.declared.Commitment.{Commitment}
 use Rattle.authority.specs.declared.Witnessing.{Witnessing}
 
--- a set of places against a threshold
+-- a set of places against a threshold: how many there are, and the first unsatisfied clause, or 0 where there is none to name
+abbrev pub tooFew : ℕ → Threshold → List ℕ → Answer
+tooFew which t places = refused which (length places) (clauseNamed (judgedBy t places))
+
 unfoldable pub quorum : ℕ → Threshold → List ℕ → Answer
-quorum which t places = pick (satisfied t places) accepted (refused which (length places) 0)
+quorum which t places = pick (satisfied t places) accepted (tooFew which t places)
 
 -- at least `toad` of the witnesses
 unfoldable pub receipts : ℕ → List ℕ → Answer

@@ -6,6 +6,7 @@ ghost use Rattle.places.specs.Places.{placesIn};
 ghost use Rattle.authority.specs.Authority.{quorum, receipts, verifies, opens, witnessed};
 use answer::Answer;
 use items::Items;
+use threshold::Judgement;
 use threshold::Threshold;
 use verification::Sigers;
 
@@ -33,16 +34,15 @@ fn used(l: Items) -> usize
     if l.count < 16 { l.count } else { 16 }
 }
 
-// A set of places against a threshold; a refusal names how many there are.
+// A set of places against a threshold; a refusal names how many there are, and the first clause that is short.
 pub fn quorum(which: u8, t: Threshold, set: u16) -> Answer
     ensures { λ r. ⌜ r ≡ quorum which t (placesIn set) ⌝ }
 {
     let n = places::size(set);
-    let judgement = threshold::judge(t, n as usize, set);
-    if threshold::is_met(judgement) {
-        return answer::accept();
+    match threshold::judge(t, n as usize, set) {
+        Judgement::Met => answer::accept(),
+        Judgement::Short(clause) => answer::refuse(which, n as u64, clause as u64),
     }
-    answer::refuse(which, n as u64, 0)
 }
 
 pub fn receipts(toad: u32, set: u16) -> Answer

@@ -9,13 +9,16 @@ use cursor::Num8;
 use item::Kind;
 use items::Items;
 use state::Holder;
+use threshold::Judgement;
 use threshold::Threshold;
 use toad::Taken;
 
-// What a call says: its answer, with a value behind it or not, or yes or no. A bad request is none that compare makes.
+// What a call says: its answer, with a value behind it or not, a judgement, or yes or no. A bad request is none that compare
+// makes.
 enum Said {
     Plain(Answer),
     With(Answer, u32),
+    Judged(Judgement),
     Yes(bool),
     Bad,
 }
@@ -62,7 +65,7 @@ fn exact(s: &[u8]) -> Said {
     taken(s, n.next, t)
 }
 
-fn satisfied_by(sorted: bool, t: Threshold, ps: &[u32]) -> bool {
+fn satisfied_by(sorted: bool, t: Threshold, ps: &[u32]) -> Judgement {
     if sorted {
         return satisfied::satisfied_by_sorted_unique(t, ps);
     }
@@ -81,8 +84,7 @@ fn satisfied(sorted: bool, s: &[u8]) -> Said {
     }
     let t = q.threshold;
     let ps = read::places(rest);
-    let yes = satisfied_by(sorted, t, &ps[0..n]);
-    Said::Yes(yes)
+    Said::Judged(satisfied_by(sorted, t, &ps[0..n]))
 }
 
 fn attainable(s: &[u8]) -> Said {
@@ -186,6 +188,17 @@ fn put_yes(out: &mut [u8], yes: bool) -> usize {
     text::put_all(out, 0, b"no\n")
 }
 
+// A no names the first clause that is short, or 0.
+fn put_judged(out: &mut [u8], j: Judgement) -> usize {
+    match j {
+        Judgement::Met => put_yes(out, true),
+        Judgement::Short(clause) => {
+            let p = text::put_all(out, 0, b"no ");
+            text::put_decimal(out, p, clause as u64, b'\n')
+        }
+    }
+}
+
 fn put_with(out: &mut [u8], x: Answer, n: u32) -> usize {
     let p = text::put_answer(out, 0, x, b' ');
     text::put_decimal(out, p, n as u64, b'\n')
@@ -195,6 +208,7 @@ fn put_said(out: &mut [u8], x: Said) -> usize {
     match x {
         Said::Plain(y) => text::put_answer(out, 0, y, b'\n'),
         Said::With(y, n) => put_with(out, y, n),
+        Said::Judged(j) => put_judged(out, j),
         Said::Yes(yes) => put_yes(out, yes),
         Said::Bad => text::put_all(out, 0, b"bad\n"),
     }

@@ -1,2 +1,3 @@
 pub mod Starred
 pub mod Copies
+pub mod Clauses

@@ -1,5 +1,5 @@
 -- Document 01, 'Both sides of the line': the lines marked *, in its order and its words, said of the definitions that the
--- contracts cite.
+-- contracts cite. A no of a threshold names its clause (document 02, request 2).
 use mathlib.Core.Path.{_≡_}
 use mathlib.Core.Bool.{Bool, true, false}
 use mathlib.Core.List.{List, [], _∷_, _++_, map}
@@ -11,6 +11,8 @@ use Rattle.number.specs.Number.{words, nextOf}
 use Rattle.item.specs.declared.Item.{Item}
 use Rattle.weight.specs.declared.Weight.{Weight}
 use Rattle.threshold.specs.declared.Threshold.{Threshold}
+use Rattle.threshold.specs.declared.Judgement.{Judgement}
+use Rattle.threshold.specs.declared.Judgement.the-variants.{Met, Short}
 use Rattle.satisfied.specs.Satisfied.{satisfiedBySortedUnique, satisfiedBy}
 use Rattle.toad.specs.declared.Taken.{Taken}
 use Rattle.toad.specs.Toad.{taken, notTaken, ampleAnswer, exactAnswer}
@@ -20,14 +22,14 @@ use Rattle.verification.specs.Verification.{verifiedPlaces, exposedPlaces, coun
 
 -- ---- the values that the lines name
 infixl 90 _/w_
-abbrev _/w_ : ℕ → ℕ → Weight
+abbrev pub _/w_ : ℕ → ℕ → Weight
 n /w d = record { num = n; den = d }
 
 abbrev weightsOf : List (List Weight) → List Weight
 weightsOf [] = []
 weightsOf (c ∷ cs) = c ++ weightsOf cs
 
-abbrev weighted : List (List Weight) → Threshold
+abbrev pub weighted : List (List Weight) → Threshold
 weighted cs =
     record {
       tag = 1;
@@ -37,18 +39,19 @@ weighted cs =
       weights = padded 16 (0 /w 0) (weightsOf cs);
     }
 
-abbrev simple : ℕ → Threshold
+abbrev pub simple : ℕ → Threshold
 simple n = record { tag = 0; simple = n; clauses = 0; sizes = replicate 16 0; weights = replicate 16 (0 /w 0) }
 
 -- what the two entries say of a list of places: the sorted one, then the other
-abbrev entries : Threshold → List ℕ → Bool × Bool
+abbrev pub entries : Threshold → List ℕ → Judgement × Judgement
 entries t ps = (satisfiedBySortedUnique t ps, satisfiedBy t ps)
 
-abbrev yes : Bool × Bool
-yes = (true, true)
+abbrev pub yes : Judgement × Judgement
+yes = (Met, Met)
 
-abbrev no : Bool × Bool
-no = (false, false)
+-- the first unsatisfied clause, counted from 1, or 0
+abbrev pub no : ℕ → Judgement × Judgement
+no clause = (Short clause, Short clause)
 
 abbrev exactly : ℕ × ℕ → Taken
 exactly c = exactAnswer (c .0) (c .1)
@@ -70,7 +73,7 @@ abbrev D : Item
 D = key 4
 
 -- a signature at index 0 with an ondex, whose digest verdict is yes
-abbrev signed : ℕ → Bool → Siger
+abbrev pub signed : ℕ → Bool → Siger
 signed ondex verdict =
     record {
       code = 65;
@@ -89,17 +92,17 @@ counts keys next sigs = (length (verifiedPlaces keys sigs), length (exposedPlace
 -- ---- the table: a field for each marked line
 pub record Starred : Type 0 where
   -- "Weights 1/2, 1/2, 1/2: places 0 and 2 yes, place 1 alone no."
-  pub halves : map (entries (weighted ((1 /w 2 ∷ 1 /w 2 ∷ 1 /w 2 ∷ []) ∷ []))) ((0 ∷ 2 ∷ []) ∷ (1 ∷ []) ∷ []) ≡ yes ∷ no ∷ []
+  pub halves : map (entries (weighted ((1 /w 2 ∷ 1 /w 2 ∷ 1 /w 2 ∷ []) ∷ []))) ((0 ∷ 2 ∷ []) ∷ (1 ∷ []) ∷ []) ≡ yes ∷ no 1 ∷ []
   -- "Clauses [1/2, 1/2] and [1/1]: 0,1 no; 0,1,2 yes."
-  pub clauses : map (entries (weighted ((1 /w 2 ∷ 1 /w 2 ∷ []) ∷ (1 /w 1 ∷ []) ∷ []))) ((0 ∷ 1 ∷ []) ∷ (0 ∷ 1 ∷ 2 ∷ []) ∷ []) ≡ no ∷ yes ∷ []
+  pub clauses : map (entries (weighted ((1 /w 2 ∷ 1 /w 2 ∷ []) ∷ (1 /w 1 ∷ []) ∷ []))) ((0 ∷ 1 ∷ []) ∷ (0 ∷ 1 ∷ 2 ∷ []) ∷ []) ≡ no 2 ∷ yes ∷ []
   -- "Weights 1/1, 1/0: place 0 no."
-  pub zero-denominator : map (entries (weighted ((1 /w 1 ∷ 1 /w 0 ∷ []) ∷ []))) ((0 ∷ []) ∷ []) ≡ no ∷ []
+  pub zero-denominator : map (entries (weighted ((1 /w 1 ∷ 1 /w 0 ∷ []) ∷ []))) ((0 ∷ []) ∷ []) ≡ no 1 ∷ []
   -- "Weights 1/1, 1/2^63, 1/2^63: 0 yes; 0,1 yes; 0,1,2 no."
-  pub overflow : map (entries (weighted ((1 /w 1 ∷ 1 /w (2 ^ 63) ∷ 1 /w (2 ^ 63) ∷ []) ∷ []))) ((0 ∷ []) ∷ (0 ∷ 1 ∷ []) ∷ (0 ∷ 1 ∷ 2 ∷ []) ∷ []) ≡ yes ∷ yes ∷ no ∷ []
+  pub overflow : map (entries (weighted ((1 /w 1 ∷ 1 /w (2 ^ 63) ∷ 1 /w (2 ^ 63) ∷ []) ∷ []))) ((0 ∷ []) ∷ (0 ∷ 1 ∷ []) ∷ (0 ∷ 1 ∷ 2 ∷ []) ∷ []) ≡ yes ∷ yes ∷ no 1 ∷ []
   -- "Simple 2 with places 0, 5: yes."
   pub simple-two : map (entries (simple 2)) ((0 ∷ 5 ∷ []) ∷ []) ≡ yes ∷ []
   -- "Simple 1 with list 2, 0: sorted entry no, other entry yes."
-  pub unsorted : map (entries (simple 1)) ((2 ∷ 0 ∷ []) ∷ []) ≡ (false, true) ∷ []
+  pub unsorted : map (entries (simple 1)) ((2 ∷ 0 ∷ []) ∷ []) ≡ (Short 0, Met) ∷ []
   -- "`exact`: 0 of 0 and 3 of 3 yes; 1 of 0, 0 of 1, 4 of 3 no."
   pub exact : map exactly ((0, 0) ∷ (3, 3) ∷ (1, 0) ∷ (0, 1) ∷ (4, 3) ∷ []) ≡ taken 0 ∷ taken 3 ∷ notTaken 40 1 0 ∷ notTaken 40 0 1 ∷ notTaken 40 4 3 ∷ []
   -- "`ample` as listed above": "Witnesses 0 to 7 give 0, 1, 2, 3, 3, 4, 4, 5; 10 gives 7; 16 gives 11."

@@ -2,9 +2,10 @@
 use mathlib.Core.Path.{_≡_, refl, sym, _∙_, ap}
 use mathlib.Core.List.{List, [], _∷_, _++_}
 use mathlib.Core.Bool.{Bool, true, false}
-use Prim.Native.Nat.{ℕ, _+_}
+use Prim.Native.Nat.{ℕ, zero, suc, _+_, _-_, _<_, _≤_}
 use native.Mathlib.Omega.{arith}
 use lib.Dec.{eqb}
+use lib.ListN.{length, getD}
 use borrow.Author.Tests.{eqb-true, eq-eqb}
 use Rattle.lists.specs.Lists.{pick, both, either, any, all, firstFrom, sameNumbers, isAt}
 use Rattle.lists.specs.declared.Found.{Found}
@@ -49,6 +50,37 @@ pub first-any : {A : Type 0} (f : A → Bool) (k : ℕ) (xs : List A) → isAt (
 unfolding firstFrom any
 first-any f k [] = refl
 first-any f k (x ∷ xs) = pick-is (f x) k (firstFrom f (k + 1) xs) (any f xs) (first-any f (k + 1) xs)
+
+-- and there its element has the property, and none before it has
+abbrev pub FirstAt : {A : Type 0} → (A → Bool) → A → ℕ → List A → ℕ → Type 0
+FirstAt f d k xs n = (k ≤ n) × ((n < k + length xs) × ((f (getD xs (n - k) d) ≡ true) × ((j : ℕ) → j < n - k → f (getD xs j d) ≡ false)))
+
+abbrev placeOf : Found → ℕ
+placeOf (At k) = k
+placeOf Nothing = 0
+
+none-before : {A : Type 0} (f : A → Bool) (d x : A) (xs : List A) (m : ℕ) → f x ≡ false → ((j : ℕ) → j < m → f (getD xs j d) ≡ false)
+    → (j : ℕ) → j < suc m → f (getD (x ∷ xs) j d) ≡ false
+none-before f d x xs m t ih zero h = t
+none-before f d x xs m t ih (suc j) h = ih j (omega (arith, h))
+
+pub first-at : {A : Type 0} (f : A → Bool) (d : A) (k : ℕ) (xs : List A) (n : ℕ) → firstFrom f k xs ≡ At n → FirstAt f d k xs n
+unfolding firstFrom
+first-at f d k [] n e = clash (sym (ap isAt e))
+first-at f d k (x ∷ xs) n e = by-test (λ g. first-at f d (k + 1) xs n g) (f x) refl e
+  where
+    by-test : (firstFrom f (k + 1) xs ≡ At n → FirstAt f d (k + 1) xs n) → (b : Bool) → f x ≡ b → pick b (At k) (firstFrom f (k + 1) xs) ≡ At n
+        → FirstAt f d k (x ∷ xs) n
+    by-test later true t g =
+        let m : k ≡ n = ap placeOf g in
+        let z : n - k ≡ 0 = omega (arith, m) in
+        (omega (arith, m), (omega (arith, m), (rw z t, λ j h. absurd (omega (arith, h, z)))))
+    by-test later false t g =
+        let ih : FirstAt f d (k + 1) xs n = later g in
+        let l : k + 1 ≤ n = ih .0 in
+        let r : n < k + 1 + length xs = ih .1 .0 in
+        let s : n - k ≡ suc (n - (k + 1)) = omega (arith, l) in
+        (omega (arith, l), (omega (arith, r), (rw s (ih .1 .1 .0), rw s (none-before f d x xs (n - (k + 1)) t (ih .1 .1 .1)))))
 
 either-assoc : (a b c : Bool) → either a (either b c) ≡ either (either a b) c
 either-assoc true b c = refl

@@ -3,7 +3,7 @@
 --     sorted-among, sorted-rises, insert-length   what is in a sorted list, that it rises, and how long it is
 --     count-..             how many numbers a list names, place by place
 --     by-..                a judgement over a list, from its set and its number
-use mathlib.Core.Path.{_≡_, refl, _∙_, ap}
+use mathlib.Core.Path.{_≡_, refl, sym, _∙_, ap}
 use mathlib.Core.List.{List, [], _∷_}
 use mathlib.Core.Bool.{Bool, true, false}
 use Prim.Native.Nat.{ℕ, _<_, _≤_, _+_}
@@ -19,7 +19,7 @@ use Rattle.places.proofs.Laws.{bit-set}
 use Rattle.threshold.specs.declared.Threshold.{Threshold}
 use Rattle.threshold.specs.declared.Judgement.{Judgement}
 use Rattle.threshold.specs.declared.Judgement.the-variants.{Met, Short}
-use Rattle.threshold.specs.Threshold.{shapeOf, judged, isMet}
+use Rattle.threshold.specs.Threshold.{shapeOf, judged, judgedBy}
 use Rattle.threshold.proofs.Laws.{judged-same}
 use Rattle.satisfied.specs.Satisfied.{risingAfter, rising, insert, sortedUnique, satisfiedBySortedUnique, satisfiedBy}
 
@@ -174,13 +174,17 @@ module _ (ps : List ℕ) (need count i : ℕ) where
   count-end h l = rw (drop-of-length-le ps h) (lt-leb need (count + 0) (omega arith))
 
 -- ---- a judgement over a list
-pub by-shape : (t : Threshold) (ps : List ℕ) → (shapeOf t ≡ 0 → ⊥) → false ≡ satisfiedBySortedUnique t ps
+pub by-shape : (t : Threshold) (ps : List ℕ) → (shapeOf t ≡ 0 → ⊥) → Short 0 ≡ satisfiedBySortedUnique t ps
 unfolding satisfiedBySortedUnique
 by-shape t ps g = rw (ne-eqb (shapeOf t) 0 g)
 
-pub by-fall : (t : Threshold) (ps : List ℕ) → shapeOf t ≡ 0 → rising ps ≡ false → false ≡ satisfiedBySortedUnique t ps
+pub by-fall : (t : Threshold) (ps : List ℕ) → shapeOf t ≡ 0 → rising ps ≡ false → Short 0 ≡ satisfiedBySortedUnique t ps
 unfolding satisfiedBySortedUnique
 by-fall t ps g r = rw (eq-eqb (shapeOf t) 0 g, r)
+
+pub by-list : (t : Threshold) (ps : List ℕ) → shapeOf t ≡ 0 → rising ps ≡ true → judgedBy t ps ≡ satisfiedBySortedUnique t ps
+unfolding satisfiedBySortedUnique
+by-list t ps g r = rw (eq-eqb (shapeOf t) 0 g, r)
 
 module _ (t : Threshold) (ps : List ℕ) where
   -- a judgement over the set is one over the list
@@ -188,26 +192,18 @@ module _ (t : Threshold) (ps : List ℕ) where
   of-set n set j h e d =
       d ∙ ap (λ (s : ℕ). judged t n (bitAt s)) e ∙ judged-same (bitAt (setOf 16 (among ps))) (among ps) (bit-set 16 (among ps)) t n (omega (arith, h))
 
-  pub by-list : (j : Judgement) → shapeOf t ≡ 0 → rising ps ≡ true → j ≡ judged t (length ps) (among ps) → isMet j ≡ satisfiedBySortedUnique t ps
-  unfolding satisfiedBySortedUnique
-  by-list j g r e = rw (eq-eqb (shapeOf t) 0 g, r, e)
-
   -- a weighted threshold does not ask how many places there are
   any-number : (n m : ℕ) (f : ℕ → Bool) → eqb (t .tag) 0 ≡ false → judged t n f ≡ judged t m f
   unfolding judged
   any-number n m f e = rw e
 
-  pub by-places : (j : Judgement) → length (t .weights) ≡ 16 → shapeOf t ≡ 0 → (t .tag ≡ 0 → ⊥) → j ≡ judged t 0 (among ps) → isMet j ≡ satisfiedBy t ps
-  unfolding satisfiedBySortedUnique
-  by-places j h g ne e =
-      let sorted : judged t (named ps) (among (sortedUnique ps)) ≡ judged t (named ps) (among ps) =
-      judged-same (among (sortedUnique ps)) (among ps) (λ k _. sorted-among ps k) t (named ps) (omega (arith, h)) in
-      rw (eq-eqb (shapeOf t) 0 g, sorted-rises ps, sorted ∙ any-number (named ps) 0 (among ps) (ne-eqb (t .tag) 0 ne), e)
+  pub by-places : length (t .weights) ≡ 16 → shapeOf t ≡ 0 → (t .tag ≡ 0 → ⊥) → judged t 0 (among ps) ≡ satisfiedBy t ps
+  by-places h g ne =
+      let sorted : judged t 0 (among ps) ≡ judged t 0 (among (sortedUnique ps)) =
+      judged-same (among ps) (among (sortedUnique ps)) (λ k _. sym (sorted-among ps k)) t 0 (omega (arith, h)) in
+      sorted ∙ any-number 0 (named ps) (among (sortedUnique ps)) (ne-eqb (t .tag) 0 ne) ∙ by-list t (sortedUnique ps) g (sorted-rises ps)
 
-pub by-number : (t : Threshold) (ps : List ℕ) → shapeOf t ≡ 0 → t .tag ≡ 0 → leb (t .simple) (named ps) ≡ satisfiedBy t ps
-unfolding satisfiedBySortedUnique judged
-by-number t ps g z = rw (eq-eqb (shapeOf t) 0 g, sorted-rises ps, eq-eqb (t .tag) 0 z) (met (leb (t .simple) (named ps)))
-  where
-    met : (b : Bool) → b ≡ isMet (pick b Met (Short 0))
-    met true = refl
-    met false = refl
+  -- a simple one asks only that
+  pub by-number : (b : Bool) → shapeOf t ≡ 0 → t .tag ≡ 0 → leb (t .simple) (named ps) ≡ b → pick b Met (Short 0) ≡ satisfiedBy t ps
+  unfolding satisfiedBySortedUnique judged
+  by-number b g z e = rw (eq-eqb (shapeOf t) 0 g, sorted-rises ps, eq-eqb (t .tag) 0 z, e)

@@ -1,9 +1,11 @@
 // Who satisfies a threshold: a lent list of places, of any length, judged by its places below 16 and by how many there are.
+// A judgement that is not met names the first clause that is short, counted from 1, or 0 where there is none to name.
 ghost use mathlib.Core.Path.{_≡_};
 ghost use lib.Dec.{leb};
 ghost use lib.ListN.{length, drop};
 ghost use Rattle.places.specs.Places.{among};
 ghost use Rattle.satisfied.specs.Satisfied.{rising, sortedUnique, satisfiedBySortedUnique, satisfiedBy};
+use threshold::Judgement;
 use threshold::Threshold;
 
 fn is_rising(ps: &[u32]) -> bool
@@ -58,31 +60,32 @@ fn names_at_least(ps: &[u32], need: u64) -> bool
     true
 }
 
-pub fn satisfied_by_sorted_unique(t: Threshold, ps: &[u32]) -> bool
+pub fn satisfied_by_sorted_unique(t: Threshold, ps: &[u32]) -> Judgement
     ensures { λ r. ⌜ r ≡ satisfiedBySortedUnique t (now (ps .entry)) ⌝ }
 {
     if threshold::shape(t) != 0 {
-        return false;
+        return Judgement::Short(0);
     }
     if !is_rising(ps) {
-        return false;
+        return Judgement::Short(0);
     }
     let set = places::set_of(ps);
-    let j = threshold::judge(t, ps.len(), set);
-    threshold::is_met(j)
+    threshold::judge(t, ps.len(), set)
 }
 
 // A simple threshold asks only how many places there are, a weighted one only which.
-pub fn satisfied_by(t: Threshold, ps: &[u32]) -> bool
+pub fn satisfied_by(t: Threshold, ps: &[u32]) -> Judgement
     ensures { λ r. ⌜ r ≡ satisfiedBy t (now (ps .entry)) ⌝ }
 {
     if threshold::shape(t) != 0 {
-        return false;
+        return Judgement::Short(0);
     }
-    if t.tag == 0 {
-        return names_at_least(ps, t.simple);
+    if t.tag != 0 {
+        let set = places::set_of(ps);
+        return threshold::judge(t, 0, set);
     }
-    let set = places::set_of(ps);
-    let j = threshold::judge(t, 0, set);
-    threshold::is_met(j)
+    if names_at_least(ps, t.simple) {
+        return Judgement::Met;
+    }
+    Judgement::Short(0)
 }

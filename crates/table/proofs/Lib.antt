@@ -3,3 +3,4 @@ pub mod Stages
 pub mod Entries
 pub mod Theorems
 pub mod Reserved
+pub mod Counted

@@ -1,5 +1,8 @@
--- The numbers that come from each stage of the judgement and of the fold. A property P of all numbers to 28, and from 30 to 38, is
--- one of every answer to an event: 29 never comes (reserved/proofs/Laws). Assumes nothing.
+-- The answers that come from each stage of the judgement and of the fold. What holds of every answer with a number to 26 or from 30
+-- to 38, and of what the signatures and the commitments get (27, 28), holds of every answer to an event: 29 never comes
+-- (reserved/proofs/Laws). Assumes nothing.
+--     answers      of an answer and its details
+--     numbers      of a number alone: P of all to 28, and from 30 to 38
 use mathlib.Core.Path.{_≡_}
 use mathlib.Core.List.{List, [], _∷_}
 use mathlib.Core.Bool.{Bool, true}
@@ -34,7 +37,7 @@ use Rattle.verification.specs.declared.Sigers.{Sigers}
 use Rattle.verification.specs.Verification as verification
 use Rattle.authority.specs.declared.Authority.{Authority}
 use Rattle.authority.specs.declared.Commitment.{Commitment}
-use Rattle.authority.specs.Authority.{quorum, receipts}
+use Rattle.authority.specs.Authority.{tooFew, quorum, receipts}
 use Rattle.inception.specs.Identity.{identity, firstKey, soleKey, commitsNothing}
 use Rattle.event.specs.declared.Ilk.{Ilk}
 use Rattle.event.specs.declared.Ilk.the-variants.{Inception, Rotation, Interaction, DelegatedInception, DelegatedRotation}
@@ -53,14 +56,16 @@ use Rattle.reserved.proofs.Laws.{without-29}
 use Rattle.ingest.specs.Judgement.{onNothing, whereLive, onState, judgement, shaped, answerTo}
 use Rattle.fold.specs.Fold.{foldable, foldAnswer}
 use Rattle.decoded.proofs.Gives.{Each}
+use Rattle.table.specs.Counted.{signed27, shown28}
 use Rattle.table.proofs.Laws.{pick-in, then-in, first-in, fault-in}
 
-module _ (P : ℕ → Type 0) (low : (n : ℕ) → n ≤ 28 → P n) (high : (n : ℕ) → 30 ≤ n → n ≤ 38 → P n) where
-  abbrev Good : Answer → Type 0
-  Good x = P (x .number)
+module _ (Good : Answer → Type 0) (low : (n : ℕ) (a b : Number) → n ≤ 26 → Good (record { number = n; a = a; b = b })) (high : (n : ℕ) (a b : Number) → 30 ≤ n → n ≤ 38 → Good (record { number = n; a = a; b = b })) where
+  -- without details
+  abbrev P : ℕ → Type 0
+  P n = Good (refused n 0 0)
 
   zero-in : P 0
-  zero-in = low 0 (omega arith)
+  zero-in = low 0 _ _ (omega arith)
 
   all-in : (xs : List Answer) → Each Good xs → Good (firstRefusal xs)
   unfolding firstRefusal
@@ -74,10 +79,10 @@ module _ (P : ℕ → Type 0) (low : (n : ℕ) → n ≤ 28 → P n) (high : (n 
 
   -- ---- shapes: 3 and 4
   three : P 3
-  three = low 3 (omega arith)
+  three = low 3 _ _ (omega arith)
 
   four : P 4
-  four = low 4 (omega arith)
+  four = low 4 _ _ (omega arith)
 
   -- a count, the used places, the unused ones
   list-in : (few used unused : Bool) → P (pick few (pick used (pick unused 0 3) 3) 4)
@@ -153,19 +158,19 @@ module _ (P : ℕ → Type 0) (low : (n : ℕ) → n ≤ 28 → P n) (high : (n 
       let tail : P (stateTail s) = fields-in _ (items-in Key (s .witnessing .witnesses), (config-in (s .config), (item-in Said (s .last .said), tt))) in
       fields-in _ (head, (own-in (s .authority), (next-in (s .commitment), (tail, tt))))
 
-  pub holder-shape-in : (h : Holder) → P (holderShape h)
+  pub holder-shapes : (h : Holder) → P (holderShape h)
   unfolding holderShape
-  holder-shape-in h = pick-in P (isHeld h) (stateShape (h .state)) 0 (state-shape-in (h .state)) zero-in
+  holder-shapes h = pick-in P (isHeld h) (stateShape (h .state)) 0 (state-shape-in (h .state)) zero-in
 
   -- ---- 23 to 26
   form-in : (t : Threshold) (keys : ℕ) → Good (wellFormed t keys)
   unfolding wellFormed
   form-in t keys =
-      let most : (n : ℕ) → Good (atMost n keys) = λ n. unless-in (leb n keys) (refused 24 n keys) (low 24 (omega arith)) in
+      let most : (n : ℕ) → Good (atMost n keys) = λ n. unless-in (leb n keys) (refused 24 n keys) (low 24 _ _ (omega arith)) in
       pick-in Good (threshold.isSimple t) _ _
-      (pick-in Good (eqb (t .simple) 0) (refused 23 0 0) (atMost (t .simple) keys) (low 23 (omega arith)) (most (t .simple)))
-      (pick-in Good (eqb (t .clauses) 0) (refused 25 0 0) _ (low 25 (omega arith))
-      (pick-in Good (any (eqb 0) (threshold.sizesOf t)) (refused 26 0 0) (atMost (threshold.weightsIn t) keys) (low 26 (omega arith)) (most (threshold.weightsIn t))))
+      (pick-in Good (eqb (t .simple) 0) (refused 23 0 0) (atMost (t .simple) keys) (low 23 _ _ (omega arith)) (most (t .simple)))
+      (pick-in Good (eqb (t .clauses) 0) (refused 25 0 0) _ (low 25 _ _ (omega arith))
+      (pick-in Good (any (eqb 0) (threshold.sizesOf t)) (refused 26 0 0) (atMost (threshold.weightsIn t) keys) (low 26 _ _ (omega arith)) (most (threshold.weightsIn t))))
 
   own-form-in : (a : Authority) → Good (ownForm a)
   own-form-in a = form-in (a .threshold) (a .keys .count)
@@ -173,29 +178,25 @@ module _ (P : ℕ → Type 0) (low : (n : ℕ) → n ≤ 28 → P n) (high : (n 
   next-form-in : (c : Commitment) → Good (nextForm c)
   next-form-in c = pick-in Good (eqb (c .next .count) 0) accepted _ zero-in (form-in (c .threshold) (c .next .count))
 
-  -- ---- 27, 28, 32
-  quorum-in : (which : ℕ) (t : Threshold) (places : List ℕ) → P which → Good (quorum which t places)
-  unfolding quorum
-  quorum-in which t places p = unless-in (satisfied t places) (refused which (length places) 0) p
-
+  -- ---- 32
   receipts-in : (toad : ℕ) (places : List ℕ) → Good (receipts toad places)
   unfolding receipts
   receipts-in toad places =
-      pick-in Good (eqb toad 0) accepted _ zero-in (unless-in (leb toad (length places)) (refused 32 (length places) toad) (high 32 (omega arith) (omega arith)))
+      pick-in Good (eqb toad 0) accepted _ zero-in (unless-in (leb toad (length places)) (refused 32 (length places) toad) (high 32 _ _ (omega arith) (omega arith)))
 
   -- ---- 30, 31
   toad-in : (toad witnesses : ℕ) → Good (witnessThreshold toad witnesses)
   unfolding witnessThreshold
   toad-in toad witnesses =
       unless-in (inRange toad witnesses) _
-      (pick-in Good (eqb toad 0) (refused 30 witnesses 0) (refused 31 toad witnesses) (high 30 (omega arith) (omega arith)) (high 31 (omega arith) (omega arith)))
+      (pick-in Good (eqb toad 0) (refused 30 witnesses 0) (refused 31 toad witnesses) (high 30 _ _ (omega arith) (omega arith)) (high 31 _ _ (omega arith) (omega arith)))
 
   -- ---- 18 to 22, 38
   duplicate-in : (list : ℕ) (xs : List Item) → Good (duplicate list xs)
-  duplicate-in list xs = if-in (isAt (repeatFrom [] 0 xs)) (refused 18 list 0) (low 18 (omega arith))
+  duplicate-in list xs = if-in (isAt (repeatFrom [] 0 xs)) (refused 18 list 0) (low 18 _ _ (omega arith))
 
   transferable-in : (list : ℕ) (xs : List Item) → Good (transferable list xs)
-  transferable-in list xs = if-in (any isTransferable xs) (refused 19 list 0) (low 19 (omega arith))
+  transferable-in list xs = if-in (any isTransferable xs) (refused 19 list 0) (low 19 _ _ (omega arith))
 
   faults-in : (list : ℕ) (xs : List Item) → Good (witnessFaults list xs)
   unfolding witnessFaults
@@ -212,12 +213,12 @@ module _ (P : ℕ → Type 0) (low : (n : ℕ) → n ≤ 28 → P n) (high : (n 
         (
           duplicate-in 3 adds,
           (
-            refusal-in 20 (any (items.member adds) cuts) (low 20 (omega arith)),
+            refusal-in 20 (any (items.member adds) cuts) (low 20 _ _ (omega arith)),
             (
               transferable-in 2 cuts,
               (
                 transferable-in 3 adds,
-                (refusal-in 21 (any (absent current) cuts) (low 21 (omega arith)), (refusal-in 22 (any (items.member current) adds) (low 22 (omega arith)), tt)),
+                (refusal-in 21 (any (absent current) cuts) (low 21 _ _ (omega arith)), (refusal-in 22 (any (items.member current) adds) (low 22 _ _ (omega arith)), tt)),
               ),
             ),
           ),
@@ -226,24 +227,24 @@ module _ (P : ℕ → Type 0) (low : (n : ℕ) → n ≤ 28 → P n) (high : (n 
 
   change-in : (xs : List Item) → Good (changeOf xs .answer)
   unfolding changeOf
-  change-in xs = pick-in (λ (c : Change). Good (c .answer)) (leb (length xs) 16) _ _ zero-in (high 38 (omega arith) (omega arith))
+  change-in xs = pick-in (λ (c : Change). Good (c .answer)) (leb (length xs) 16) _ _ zero-in (high 38 _ _ (omega arith) (omega arith))
 
   -- ---- 33 to 36
   follows-in : (next : Successor) (actual : Number) → Good (follows next actual)
-  follows-in (Of expected) actual = unless-in (sameNumber expected actual) (record { number = 35; a = expected; b = actual }) (high 35 (omega arith) (omega arith))
-  follows-in Last actual = high 34 (omega arith) (omega arith)
+  follows-in (Of expected) actual = unless-in (sameNumber expected actual) (record { number = 35; a = expected; b = actual }) (high 35 _ _ (omega arith) (omega arith))
+  follows-in Last actual = high 34 _ _ (omega arith) (omega arith)
 
   chains-in : (prefix : Item) (sn : Number) (said : Item) (h : Head) → Good (chainsOnto prefix sn said h)
   unfolding chainsOnto
   chains-in prefix sn said h =
       all-in _ (
-        unless-in (sameItem prefix (h .prefix)) (refused 33 0 0) (high 33 (omega arith) (omega arith)),
-        (follows-in (nextOf sn) (h .sn), (unless-in (sameItem said (h .prior)) (refused 36 0 0) (high 36 (omega arith) (omega arith)), tt)),
+        unless-in (sameItem prefix (h .prefix)) (refused 33 0 0) (high 33 _ _ (omega arith) (omega arith)),
+        (follows-in (nextOf sn) (h .sn), (unless-in (sameItem said (h .prior)) (refused 36 0 0) (high 36 _ _ (omega arith) (omega arith)), tt)),
       )
 
   -- ---- 12 to 17
-  needed-in : (n a : ℕ) (good : Bool) → n ≤ 28 → Good (refuseUnless good (refused n a 0))
-  needed-in n a good p = unless-in good (refused n a 0) (low n p)
+  needed-in : (n a : ℕ) (good : Bool) → n ≤ 26 → Good (refuseUnless good (refused n a 0))
+  needed-in n a good p = unless-in good (refused n a 0) (low n _ _ p)
 
   sole-in : (prefix : Item) (keys : Items) (t : Threshold) → Good (firstRefusal (soleKey prefix keys t))
   sole-in prefix keys t =
@@ -270,7 +271,7 @@ module _ (P : ℕ → Type 0) (low : (n : ℕ) → n ≤ 28 → P n) (high : (n 
     unfolding inceptionWithout29
     without-in h b anchors =
         all-in _ (
-          unless-in (sameNumber (h .sn) (small 0)) (record { number = 11; a = h .sn; b = small 0 }) (low 11 (omega arith)),
+          unless-in (sameNumber (h .sn) (small 0)) (record { number = 11; a = h .sn; b = small 0 }) (low 11 _ _ (omega arith)),
           (
             identity-in (h .prefix) (b .authority .keys) (b .authority .threshold) (b .commitment .next .count) (b .additions .count) anchors,
             (
@@ -301,50 +302,73 @@ module _ (P : ℕ → Type 0) (low : (n : ℕ) → n ≤ 28 → P n) (high : (n 
     unfolding interaction
     interaction-in s h =
         all-in _ (
-          if-in (config.establishmentOnly (s .config)) (refused 37 0 0) (high 37 (omega arith) (omega arith)),
+          if-in (config.establishmentOnly (s .config)) (refused 37 0 0) (high 37 _ _ (omega arith) (omega arith)),
           (chains-in (s .prefix) (s .sn) (s .said) h, (isSigned, (isReceipted (s .witnessing .witnesses .count), tt))),
         )
 
-  -- ---- by the ilk
-  on-nothing-in : (k : Ilk) (e : Event) → shapeAs k e ≡ 0 → Good (onNothing k e)
-  on-nothing-in Inception e z =
-      inception-in _ accepted _ (quorum-in 27 _ _ (low 27 (omega arith))) zero-in (λ n. receipts-in _ _) (e .head) (e .body) (e .anchors) (good-prefix e z)
-  on-nothing-in Rotation e z = low 8 (omega arith)
-  on-nothing-in Interaction e z = low 8 (omega arith)
-  on-nothing-in DelegatedInception e z = low 6 (omega arith)
-  on-nothing-in DelegatedRotation e z = low 8 (omega arith)
+  -- ---- by the ilk, where what 27 and 28 are asked of is good
+  on-nothing-in : (k : Ilk) (s : KeyState) (e : Event) → shapeAs k e ≡ 0 → Good (signed27 k s e) → Good (onNothing k e)
+  on-nothing-in Inception s e z own = inception-in _ accepted _ own zero-in (λ n. receipts-in _ _) (e .head) (e .body) (e .anchors) (good-prefix e z)
+  on-nothing-in Rotation s e z own = low 8 _ _ (omega arith)
+  on-nothing-in Interaction s e z own = low 8 _ _ (omega arith)
+  on-nothing-in DelegatedInception s e z own = low 6 _ _ (omega arith)
+  on-nothing-in DelegatedRotation s e z own = low 8 _ _ (omega arith)
 
-  where-live-in : (k : Ilk) (s : KeyState) (e : Event) → Good (whereLive k s e)
-  where-live-in Inception s e = low 9 (omega arith)
-  where-live-in Rotation s e =
-      rotation-in _ _ _ (quorum-in 27 _ _ (low 27 (omega arith))) (quorum-in 28 _ _ (low 28 (omega arith))) (λ n. receipts-in _ _) s (e .head) (e .body)
-  where-live-in Interaction s e = interaction-in _ accepted _ (quorum-in 27 _ _ (low 27 (omega arith))) zero-in (λ n. receipts-in _ _) s (e .head)
-  where-live-in DelegatedInception s e = low 6 (omega arith)
-  where-live-in DelegatedRotation s e = low 7 (omega arith)
+  where-live-in : (k : Ilk) (s : KeyState) (e : Event) → Good (signed27 k s e) → Good (shown28 s e) → Good (whereLive k s e)
+  where-live-in Inception s e own shown = low 9 _ _ (omega arith)
+  where-live-in Rotation s e own shown = rotation-in _ _ _ own shown (λ n. receipts-in _ _) s (e .head) (e .body)
+  where-live-in Interaction s e own shown = interaction-in _ accepted _ own zero-in (λ n. receipts-in _ _) s (e .head)
+  where-live-in DelegatedInception s e own shown = low 6 _ _ (omega arith)
+  where-live-in DelegatedRotation s e own shown = low 7 _ _ (omega arith)
 
-  judgement-in : (h : Holder) (e : Event) → eventShape e ≡ 0 → Good (judgement h e)
+  judgement-in : (h : Holder) (e : Event) → Good (signed27 (e .ilk) (h .state) e) → Good (shown28 (h .state) e) → eventShape e ≡ 0 → Good (judgement h e)
   unfolding judgement onState eventShape
-  judgement-in h e z =
-      pick-in Good (isHeld h) _ _ (pick-in Good (mayMove (h .state)) _ (refused 10 0 0) (where-live-in (e .ilk) (h .state) e) (low 10 (omega arith)))
-      (on-nothing-in (e .ilk) e z)
+  judgement-in h e own shown z =
+      pick-in Good (isHeld h) _ _
+      (pick-in Good (mayMove (h .state)) _ (refused 10 0 0) (where-live-in (e .ilk) (h .state) e own shown) (low 10 _ _ (omega arith)))
+      (on-nothing-in (e .ilk) (h .state) e z own)
 
   -- ---- behind the shapes
   shaped-in : (h : Holder) (e : Event) (x : Answer) → (eventShape e ≡ 0 → Good x) → Good (shaped h e x)
   shaped-in h e x p =
-      then-in Good (refused (holderShape h) 0 0) _ (holder-shape-in h)
+      then-in Good (refused (holderShape h) 0 0) _ (holder-shapes h)
       (λ _. then-in Good (refused (eventShape e) 0 0) _ (event-shape-in e) (λ q. all-in (x ∷ []) (p (eqb-true (eventShape e) 0 q), tt)))
 
-  pub answer-in : (h : Holder) (e : Event) → Good (answerTo h e)
+  pub answers : (h : Holder) (e : Event) → Good (signed27 (e .ilk) (h .state) e) → Good (shown28 (h .state) e) → Good (answerTo h e)
   unfolding answerTo
-  answer-in h e = shaped-in h e (judgement h e) (judgement-in h e)
+  answers h e own shown = shaped-in h e (judgement h e) (judgement-in h e own shown)
 
   foldable-in : (k : Ilk) (h : Holder) (e : Event) → Good (foldable k h e)
   foldable-in Inception h e = zero-in
-  foldable-in Rotation h e = pick-in Good (isHeld h) _ (refused 8 0 0) (change-in (newWitnesses (h .state) (e .body))) (low 8 (omega arith))
-  foldable-in Interaction h e = pick-in Good (isHeld h) accepted (refused 8 0 0) zero-in (low 8 (omega arith))
-  foldable-in DelegatedInception h e = low 6 (omega arith)
-  foldable-in DelegatedRotation h e = low 6 (omega arith)
+  foldable-in Rotation h e = pick-in Good (isHeld h) _ (refused 8 0 0) (change-in (newWitnesses (h .state) (e .body))) (low 8 _ _ (omega arith))
+  foldable-in Interaction h e = pick-in Good (isHeld h) accepted (refused 8 0 0) zero-in (low 8 _ _ (omega arith))
+  foldable-in DelegatedInception h e = low 6 _ _ (omega arith)
+  foldable-in DelegatedRotation h e = low 6 _ _ (omega arith)
 
-  pub fold-answer-in : (h : Holder) (e : Event) → Good (foldAnswer h e)
+  pub folds : (h : Holder) (e : Event) → Good (foldAnswer h e)
   unfolding foldAnswer
-  fold-answer-in h e = shaped-in h e (foldable (e .ilk) h e) (λ _. foldable-in (e .ilk) h e)
+  folds h e = shaped-in h e (foldable (e .ilk) h e) (λ _. foldable-in (e .ilk) h e)
+
+-- ---- a property of numbers
+module _ (P : ℕ → Type 0) (low : (n : ℕ) → n ≤ 28 → P n) (high : (n : ℕ) → 30 ≤ n → n ≤ 38 → P n) where
+  abbrev Numbered : Answer → Type 0
+  Numbered x = P (x .number)
+
+  less : (n : ℕ) (a b : Number) → n ≤ 26 → P n
+  less n a b p = low n (omega arith)
+
+  more : (n : ℕ) (a b : Number) → 30 ≤ n → n ≤ 38 → P n
+  more n a b p q = high n p q
+
+  quorum-in : (which : ℕ) (t : Threshold) (places : List ℕ) → which ≤ 28 → Numbered (quorum which t places)
+  unfolding quorum
+  quorum-in which t places p = pick-in Numbered (satisfied t places) accepted (tooFew which t places) (low 0 (omega arith)) (low which p)
+
+  pub holder-shape-in : (h : Holder) → P (holderShape h)
+  holder-shape-in = holder-shapes Numbered less more
+
+  pub answer-in : (h : Holder) (e : Event) → Numbered (answerTo h e)
+  answer-in h e = answers Numbered less more h e (quorum-in 27 _ _ (omega arith)) (quorum-in 28 _ _ (omega arith))
+
+  pub fold-answer-in : (h : Holder) (e : Event) → Numbered (foldAnswer h e)
+  fold-answer-in = folds Numbered less more

@@ -1,2 +1,3 @@
 pub mod Table
 pub mod Without29
+pub mod Counted

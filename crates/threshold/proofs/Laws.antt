@@ -15,7 +15,7 @@ use lib.Seq.{drop-drop, take-nil}
 use mir.Val.{Val}
 use denote.Laws.{Is}
 use borrow.Author.Tests.{ltb-true, ltb-false}
-use Rattle.lists.specs.Lists.{pick, any}
+use Rattle.lists.specs.Lists.{pick, any, firstFrom}
 use Rattle.answer.specs.declared.Answer.{Answer}
 use Rattle.answer.specs.Answer.{refused}
 use Rattle.answer.proofs.Laws.{passed, stopped, Clean, clean-unless, clean-if, last}
@@ -25,7 +25,7 @@ use Rattle.weight.specs.Weight.{weigh, noSum, reachesOne}
 use Rattle.threshold.specs.declared.Threshold.{Threshold}
 use Rattle.threshold.specs.declared.Judgement.{Judgement}
 use Rattle.threshold.specs.declared.Judgement.the-variants.{Met, Short}
-use Rattle.threshold.specs.Threshold.{isSimple, sizesOf, weightsIn, sum, runs, shapeOf, atMost, wellFormed, checkWellFormed, sumFrom, judgedFrom, judged}
+use Rattle.threshold.specs.Threshold.{isSimple, sizesOf, weightsIn, sum, runs, shapeOf, atMost, wellFormed, checkWellFormed, sumFrom, clausesMet, firstShort, judged}
 use Rattle.threshold.proofs.Threshold.{the-row}
 
 -- the element that an array of weights has past its end, as Rattle has it
@@ -116,20 +116,20 @@ module _ (ws : List Weight) (base size : ℕ) (h : length ws ≡ 16) (g : base �
 
 module _ (signed : ℕ → Bool) (xs : List ℕ) (ws : List Weight) (i base size : ℕ) (e : drop i xs ≡ size ∷ drop (i + 1) xs) where
   abbrev left : ℕ → ℕ → Judgement
-  left j b = judgedFrom signed (j + 1) b (runs (drop j xs) (drop b ws))
+  left j b = firstShort (j + 1) (clausesMet signed b (runs (drop j xs) (drop b ws)))
 
   pub reached : length ws ≡ 16 → base ≤ 16 → reachesOne (sumFrom signed base noSum (take size (drop base ws))) ≡ true
       → left (i + 1) (cut (base + size)) ≡ left i base
-  unfolding judgedFrom runs
+  unfolding firstFrom clausesMet runs
   reached h g r = rw (e, r, run-end ws base size h g, run-rest ws base size h g)
 
   pub short : reachesOne (sumFrom signed base noSum (take size (drop base ws))) ≡ false → Short (i + 1) ≡ left i base
-  unfolding judgedFrom runs
+  unfolding firstFrom clausesMet runs
   short r = rw (e, r)
 
 pub all-reached : (signed : ℕ → Bool) (xs : List ℕ) (ws : List Weight) (i number base : ℕ) → length xs ≤ i
-    → Met ≡ judgedFrom signed number base (runs (drop i xs) ws)
-unfolding judgedFrom runs
+    → Met ≡ firstShort number (clausesMet signed base (runs (drop i xs) ws))
+unfolding firstFrom clausesMet runs
 all-reached signed xs ws i number base h = rw (drop-of-length-le xs h)
 
 -- ---- only the places below 16 matter
@@ -139,15 +139,14 @@ module _ (f g : ℕ → Bool) (same : (k : ℕ) → k < 16 → f k ≡ g k) wher
   sum-same [] k s h = refl
   sum-same (w ∷ ws) k s h = rw (same k (omega arith)) (sum-same ws (k + 1) (weigh (g k) s w) (omega arith))
 
-  clauses-same : (ns : List ℕ) (ws : List Weight) (number base : ℕ) → base + length ws ≤ 16
-      → judgedFrom f number base (runs ns ws) ≡ judgedFrom g number base (runs ns ws)
-  unfolding judgedFrom runs
-  clauses-same [] ws number base h = refl
-  clauses-same (n ∷ ns) ws number base h =
+  clauses-same : (ns : List ℕ) (ws : List Weight) (base : ℕ) → base + length ws ≤ 16 → clausesMet f base (runs ns ws) ≡ clausesMet g base (runs ns ws)
+  unfolding clausesMet runs
+  clauses-same [] ws base h = refl
+  clauses-same (n ∷ ns) ws base h =
       let a : base + length (take n ws) ≤ 16 = simp length-take (omega arith) in
       let b : base + length (take n ws) + length (drop n ws) ≤ 16 = simp (length-take, length-drop) (omega arith) in
-      rw (sum-same (take n ws) base noSum a, clauses-same ns (drop n ws) (number + 1) (base + length (take n ws)) b)
+      rw (sum-same (take n ws) base noSum a, clauses-same ns (drop n ws) (base + length (take n ws)) b)
 
   pub judged-same : (t : Threshold) (n : ℕ) → length (t .weights) ≤ 16 → judged t n f ≡ judged t n g
   unfolding judged
-  judged-same t n h = rw (clauses-same (take (t .clauses) (t .sizes)) (t .weights) 1 0 (omega arith))
+  judged-same t n h = rw (clauses-same (take (t .clauses) (t .sizes)) (t .weights) 0 (omega arith))

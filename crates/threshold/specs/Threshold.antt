@@ -2,10 +2,12 @@
 -- the weights as numerator u64 and denominator u64."
 use Prim.Native.Nat.{ℕ, _+_}
 use mathlib.Core.List.{List, [], _∷_}
-use mathlib.Core.Bool.{Bool, true, false}
+use mathlib.Core.Bool.{Bool, true, false, not}
 use lib.Dec.{eqb, leb}
 use lib.ListN.{length, take, drop}
-use Rattle.lists.specs.Lists.{pick, both, any, all}
+use Rattle.lists.specs.declared.Found.{Found}
+use Rattle.lists.specs.declared.Found.the-variants.{At, Nothing}
+use Rattle.lists.specs.Lists.{pick, both, any, all, firstFrom}
 use Rattle.answer.specs.declared.Answer.{Answer}
 use Rattle.answer.specs.Answer.{refused, accepted, firstRefusal}
 use Rattle.weight.specs.declared.Weight.{Weight}
@@ -77,23 +79,40 @@ unfoldable pub sumFrom : (ℕ → Bool) → ℕ → Sum → List Weight → Sum
 sumFrom signed k s [] = s
 sumFrom signed k s (w ∷ ws) = sumFrom signed (k + 1) (weigh (signed k) s w) ws
 
--- clause after clause: each owns the next run of places, and the first that is not reached is short
-unfoldable pub judgedFrom : (ℕ → Bool) → ℕ → ℕ → List (List Weight) → Judgement
-judgedFrom signed number base [] = Met
-judgedFrom signed number base (c ∷ cs) =
-    pick (reachesOne (sumFrom signed base noSum c)) (judgedFrom signed (number + 1) (base + length c) cs) (Short number)
+-- which clauses are satisfied: each owns the next run of places. An empty clause never is.
+unfoldable pub clausesMet : (ℕ → Bool) → ℕ → List (List Weight) → List Bool
+clausesMet signed base [] = []
+clausesMet signed base (c ∷ cs) = reachesOne (sumFrom signed base noSum c) ∷ clausesMet signed (base + length c) cs
+
+-- ---- Document 02, request 2: "The threshold judgement shall answer with the first unsatisfied clause, counted from 1, or 0
+-- where there is none to name (satisfied, a simple threshold, no clauses, or a list not strictly rising)."
+abbrev pub shortAt : Found → Judgement
+shortAt (At k) = Short k
+shortAt Nothing = Met
+
+-- the first clause has this number
+abbrev pub firstShort : ℕ → List Bool → Judgement
+firstShort number met = shortAt (firstFrom not number met)
 
 -- the judgement over a set of places: how many there are, and which
 unfoldable pub judged : Threshold → ℕ → (ℕ → Bool) → Judgement
 judged t count signed =
     pick (isSimple t)
     (pick (leb (t .simple) count) Met (Short 0))
-    (pick (eqb (t .clauses) 0) (Short 0) (judgedFrom signed 1 0 (clausesOf t)))
+    (pick (eqb (t .clauses) 0) (Short 0) (firstShort 1 (clausesMet signed 0 (clausesOf t))))
 
 abbrev pub isMet : Judgement → Bool
 isMet Met = true
 isMet (Short k) = false
 
+-- the number that names the clause
+abbrev pub clauseNamed : Judgement → ℕ
+clauseNamed Met = 0
+clauseNamed (Short k) = k
+
 -- a list without repeats is a set of places
+abbrev pub judgedBy : Threshold → List ℕ → Judgement
+judgedBy t places = judged t (length places) (among places)
+
 abbrev pub satisfied : Threshold → List ℕ → Bool
-satisfied t places = isMet (judged t (length places) (among places))
+satisfied t places = isMet (judgedBy t places)

@@ -5,7 +5,7 @@ ghost use lib.ListN.{take, drop};
 ghost use Rattle.lists.specs.Lists.{pick, both, any, all};
 ghost use Rattle.places.specs.Places.{bitAt};
 ghost use Rattle.weight.specs.Weight.{zeroWeight, noSum};
-ghost use Rattle.threshold.specs.Threshold.{sum, restZero, shapeOf, atMost, simpleForm, wellFormed, checkWellFormed, sumFrom, runs, judgedFrom, judged, isMet};
+ghost use Rattle.threshold.specs.Threshold.{sum, restZero, shapeOf, atMost, simpleForm, wellFormed, checkWellFormed, sumFrom, runs, clausesMet, firstShort, judged, isMet};
 use answer::Answer;
 use weight::Sum;
 use weight::Weight;
@@ -200,7 +200,7 @@ fn cut_to_16(end: usize) -> usize
 }
 
 fn judge_clauses(sizes: [u8; 16], n: usize, weights: [Weight; 16], set: u16) -> Judgement
-    ensures { λ r. ⌜ r ≡ judgedFrom (bitAt set) 1 0 (runs (take n sizes) weights) ⌝ }
+    ensures { λ r. ⌜ r ≡ firstShort 1 (clausesMet (bitAt set) 0 (runs (take n sizes) weights)) ⌝ }
 {
     let mut base = 0;
     let mut i = 0;

@@ -10,8 +10,9 @@ use Rattle.lists.specs.Lists.{pick}
 use Rattle.answer.specs.declared.Answer.{Answer}
 use Rattle.answer.specs.Answer.{refused, accepted}
 use Rattle.threshold.specs.declared.Threshold.{Threshold}
+use Rattle.threshold.specs.declared.Judgement.{Judgement}
 use Rattle.threshold.specs.declared.Judgement.the-variants.{Met, Short}
-use Rattle.threshold.specs.Threshold.{judged, isMet, simpleForm, wellFormed}
+use Rattle.threshold.specs.Threshold.{judged, isMet, clauseNamed, simpleForm, wellFormed}
 use Rattle.authority.specs.Authority.{quorum}
 
 abbrev pub simpleQuorum : ℕ → ℕ → ℕ → Answer
@@ -28,7 +29,7 @@ pub simple-is : (which : ℕ) (t : Threshold) (ps : List ℕ) → t .tag ≡ 0 �
 unfolding quorum judged
 simple-is which t ps z = rw (eq-eqb (t .tag) 0 z) (by-test (leb (t .simple) (length ps)))
   where
-    by-test : (b : Bool) → pick b accepted (refused which (length ps) 0) ≡ pick (isMet (pick b Met (Short 0))) accepted (refused which (length ps) 0)
+    by-test : (b : Bool) → let j : Judgement = pick b Met (Short 0) in pick b accepted (refused which (length ps) 0) ≡ pick (isMet j) accepted (refused which (length ps) (clauseNamed j))
     by-test true = refl
     by-test false = refl
 

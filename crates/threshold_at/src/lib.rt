@@ -22,6 +22,7 @@ pub fn form(s: &[u8], m: Marks, keys: usize) -> Answer
     threshold::form(t, keys)
 }
 
+// Of a simple threshold there is no clause to name.
 fn quorum_simple(which: u8, required: u64, set: u16) -> Answer
     ensures { λ r. ⌜ r ≡ pick (leb required (length (placesIn set))) accepted (refused which (length (placesIn set)) 0) ⌝ }
 {
@@ -32,7 +33,7 @@ fn quorum_simple(which: u8, required: u64, set: u16) -> Answer
     answer::refuse(which, n as u64, 0)
 }
 
-// A set of places against the threshold at the marks; a refusal names how many there are.
+// A set of places against the threshold at the marks; a refusal names how many there are, and the first clause that is short.
 pub fn quorum(which: u8, s: &[u8], m: Marks, set: u16) -> Answer
     ensures { λ r. ⌜ r ≡ quorum which (thresholdOf (now (s .entry)) m) (placesIn set) ⌝ }
 {

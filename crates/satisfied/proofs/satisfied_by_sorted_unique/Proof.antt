@@ -25,16 +25,13 @@ set-of-requires c κs = search needs
 judge-requires : tie.Need-judge-requires
 judge-requires c κs = search needs
 
-is-met-requires : tie.Need-is-met-requires
-is-met-requires c κs = search needs
-
 returns-3 : tie.Need-returns-3
 returns-3 c =
-    let s = c .before .before .before .before .before .before .before .before in
+    let s = c .before .before .before .before .before .before .before in
     let t = s .args .t in
     let ps = s .args .ps .now in
-    let j = of-set t ps (length ps) _ _ (weights-16 t _ (s .good .0)) (c .before .before .set-of .ensures) (c .before .judge .ensures) in
-    c .is-met .ensures ∙ by-list t ps _ (sym (c .before .before .before .before .before .before .shape .ensures) ∙ c .before .before .before .before .before .if1 .left) (sym (c .before .before .before .before .is-rising .ensures) ∙ not-false _ (c .before .before .before .if2 .left)) j
+    of-set t ps (length ps) _ _ (weights-16 t _ (s .good .0)) (c .before .set-of .ensures) (c .judge .ensures)
+    ∙ by-list t ps (sym (c .before .before .before .before .before .shape .ensures) ∙ c .before .before .before .before .if1 .left) (sym (c .before .before .before .is-rising .ensures) ∙ not-false _ (c .before .before .if2 .left))
 
 pub satisfied-by-sorted-unique-spec : {M : Type 1} → statement M
 satisfied-by-sorted-unique-spec =
@@ -46,5 +43,4 @@ satisfied-by-sorted-unique-spec =
     returns-2
     set-of-requires
     judge-requires
-    is-met-requires
     returns-3)

@@ -10,13 +10,13 @@ use mir.Syntax.{w8}
 use Rattle.lists.proofs.Walks.{head-at, used-end, array-end}
 use Rattle.places.specs.Places.{bitAt}
 use Rattle.weight.specs.Weight.{reachesOne}
-use Rattle.threshold.specs.Threshold.{runs, judgedFrom}
+use Rattle.threshold.specs.Threshold.{runs, clausesMet, firstShort}
 use Rattle.threshold.proofs.Laws.{cut-16, reached, short, all-reached}
 use Rattle.threshold.proofs.judge_clauses.Statement.{statement}
 use Rattle.threshold.proofs.judge_clauses.Tie as tie
 
 abbrev Inv-loop : tie.InvT-loop
-Inv-loop n weights set sizes base₀ i₀ base i = (length sizes ≡ 16) × ((length weights ≡ 16) × ((base ≤ 16) × (judgedFrom (bitAt set) (i + 1) base (runs (drop i (take n sizes)) (drop base weights)) ≡ judgedFrom (bitAt set) 1 0 (runs (take n sizes) weights))))
+Inv-loop n weights set sizes base₀ i₀ base i = (length sizes ≡ 16) × ((length weights ≡ 16) × ((base ≤ 16) × (firstShort (i + 1) (clausesMet (bitAt set) base (runs (drop i (take n sizes)) (drop base weights))) ≡ firstShort 1 (clausesMet (bitAt set) 0 (runs (take n sizes) weights)))))
 
 abbrev μ-loop : tie.MeasureT-loop
 μ-loop n weights set sizes base₀ i₀ base i = 16 - i
