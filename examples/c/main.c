@@ -61,16 +61,21 @@ static void end(struct record *r, int verified, int digest_matches) {
   r->bytes[3] = (uint8_t)(r->length - 4);
 }
 
-static void inception(struct record *r) {
-  begin(r, "IC", 0, 1);
-  put_list(r, 'D', 10);
-  put_threshold(r);
+/* An inception behind its own keys and threshold: one committed key, no witnesses, no config. */
+static void end_inception(struct record *r) {
   put_list(r, 'E', 20);
   put_threshold(r);
   put(r, 0, 1); /* no witnesses */
   put(r, 0, 4);
   put(r, 0, 1); /* no config */
   end(r, 1, 0);
+}
+
+static void inception(struct record *r) {
+  begin(r, "IC", 0, 1);
+  put_list(r, 'D', 10);
+  put_threshold(r);
+  end_inception(r);
 }
 
 /* A teacher's clause and a pupil's clause, of one key each: both keys have to sign, and only the teacher's does. */
@@ -81,12 +86,7 @@ static void group(struct record *r) {
   put_item(r, 'D', 11);
   put(r, 0x01020101, 4); /* with weights, two clauses, of one weight each */
   for (int i = 0; i < 4; i++) put(r, 1, 8); /* 1/1 and 1/1 */
-  put_list(r, 'E', 20);
-  put_threshold(r);
-  put(r, 0, 1); /* no witnesses */
-  put(r, 0, 4);
-  put(r, 0, 1); /* no config */
-  end(r, 1, 0);
+  end_inception(r);
 }
 
 static void interaction(struct record *r, uint64_t sn, uint8_t said, uint8_t prior, int verified) {
