@@ -61,7 +61,7 @@ const MAX: u64 = u64::MAX;
 const HALF: u64 = 1 << 63;
 
 /// Weights near the edge of u64: alone they are fine, together some of them overflow.
-pub const HEAVY: [(u64, u64); 12] = [
+pub const HEAVY: [(u64, u64); 15] = [
     (1, HALF),
     (1, MAX),
     (MAX, MAX),
@@ -74,6 +74,9 @@ pub const HEAVY: [(u64, u64); 12] = [
     ((1 << 32) - 1, 1 << 32),
     (1, 1),
     (0, HALF),
+    (0, 2),
+    (0, 1 << 32),
+    (3, 1),
 ];
 
 const LIGHT: [(u64, u64); 10] =

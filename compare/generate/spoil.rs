@@ -65,14 +65,19 @@ fn signatures(rng: &mut Rng, list: &mut Vec<Signature>, places: usize, ondexes: 
         let places = places as u32;
         rng.pick(&[places, places.saturating_sub(1), places + 1, 0, 16, 256, 65_536, u32::MAX, 1 << 31])
     };
-    match rng.below(24) {
+    match rng.below(28) {
         0 => list.clear(),
         1 | 2 if !list.is_empty() => drop(list.remove(at)),
         3 | 4 if !list.is_empty() => list[at].verified = false,
         5 | 6 if !list.is_empty() => list[at].matches = !list[at].matches,
-        7 if !list.is_empty() => list[at].index = edge(rng, places),
+        7 if !list.is_empty() => {
+            list[at].index = if rng.one_in(3) { list[at].index.wrapping_add(256) } else { edge(rng, places) };
+        }
         8 if !list.is_empty() => list[at].ondex = None,
-        9 if !list.is_empty() => list[at].ondex = Some(edge(rng, ondexes)),
+        9 if !list.is_empty() => {
+            let far = list[at].ondex.map(|place| place.wrapping_add(256));
+            list[at].ondex = if rng.one_in(2) { far } else { Some(edge(rng, ondexes)) };
+        }
         10 if !list.is_empty() => {
             // One ondex twice: places count, not signatures.
             let other = rng.below(list.len());
@@ -128,7 +133,7 @@ fn signatures(rng: &mut Rng, list: &mut Vec<Signature>, places: usize, ondexes: 
                 one.ondex = Some(one.index);
             }
         }
-        19 | 20 if !list.is_empty() => {
+        19..=21 if !list.is_empty() => {
             // Up to the limit, copies of any before them, of copies too, among first ones that seldom verify.
             let strangers = rng.pick(&[0, 50, 80]);
             list.iter_mut().for_each(|one| one.verified = rng.one_in(3));
@@ -144,12 +149,32 @@ fn signatures(rng: &mut Rng, list: &mut Vec<Signature>, places: usize, ondexes: 
                 list.push(one);
             }
         }
-        21 if places > 0 => {
+        25..=27 if (1..40).contains(&list.len()) => {
+            // A no, strangers all around, and at the end the same with yes, or nearly the same: that decides.
+            let mut again = list[at].clone();
+            again.verified = true;
+            list[at].verified = false;
+            match (rng.below(4), again.ondex) {
+                (0 | 1, _) => again.raw[rng.pick(&[0, 31, 32, 63, 63])] ^= 1 << rng.below(8),
+                (2, None) => again.ondex = Some(0),
+                (2, Some(0)) => again.ondex = None,
+                _ => {}
+            }
+            let room = 47 - list.len();
+            for _ in 0..rng.pick(&[0, 1, room / 2, room, room]) {
+                let mut stranger = make::sign(rng, again.index as usize, None);
+                stranger.verified = false;
+                let place = rng.below(list.len() + 1);
+                list.insert(place, stranger);
+            }
+            list.push(again);
+        }
+        22 if places > 0 => {
             // From a key on nobody signs, so that a later clause is the first that is short.
             let from = rng.below(places) as u32;
             list.iter_mut().for_each(|one| one.verified &= one.index < from);
         }
-        22 if ondexes > 0 => {
+        23 | 24 if ondexes > 0 => {
             // The same of what was promised.
             let from = rng.below(ondexes) as u32;
             list.iter_mut().for_each(|one| one.matches &= one.ondex < Some(from));
@@ -265,11 +290,11 @@ fn rotation(rng: &mut Rng, r: &mut Rotation, state: Option<&Snapshot>) {
         20 | 21 => transferable(rng, &mut r.removals),
         22 | 23 => transferable(rng, &mut r.additions),
         24 | 35 => {
-            if let Some(cut) = r.removals.first() {
-                let cut = twin(rng, cut, b"B");
-                r.removals[0] = cut;
-            } else {
-                r.removals.push(make::witness(rng));
+            // One that is no witness, at any place of the list or behind it.
+            let at = rng.below(r.removals.len() + 1);
+            match r.removals.get(at) {
+                Some(cut) => r.removals[at] = twin(rng, cut, b"B"),
+                None => r.removals.push(make::witness(rng)),
             }
         }
         25 | 26 | 37 => {

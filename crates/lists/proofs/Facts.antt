@@ -7,7 +7,7 @@ use native.Mathlib.Omega.{arith}
 use lib.Dec.{eqb}
 use lib.ListN.{length, getD}
 use borrow.Author.Tests.{eqb-true, eq-eqb}
-use Rattle.lists.specs.Lists.{pick, both, either, any, all, firstFrom, sameNumbers, isAt}
+use Rattle.lists.specs.Lists.{pick, both, either, any, firstFrom, sameNumbers, isAt}
 use Rattle.lists.specs.declared.Found.{Found}
 use Rattle.lists.specs.declared.Found.the-variants.{At, Nothing}
 
@@ -59,10 +59,10 @@ abbrev placeOf : Found → ℕ
 placeOf (At k) = k
 placeOf Nothing = 0
 
-none-before : {A : Type 0} (f : A → Bool) (d x : A) (xs : List A) (m : ℕ) → f x ≡ false → ((j : ℕ) → j < m → f (getD xs j d) ≡ false)
+none-up-to : {A : Type 0} (f : A → Bool) (d x : A) (xs : List A) (m : ℕ) → f x ≡ false → ((j : ℕ) → j < m → f (getD xs j d) ≡ false)
     → (j : ℕ) → j < suc m → f (getD (x ∷ xs) j d) ≡ false
-none-before f d x xs m t ih zero h = t
-none-before f d x xs m t ih (suc j) h = ih j (omega (arith, h))
+none-up-to f d x xs m t ih zero h = t
+none-up-to f d x xs m t ih (suc j) h = ih j (omega (arith, h))
 
 pub first-at : {A : Type 0} (f : A → Bool) (d : A) (k : ℕ) (xs : List A) (n : ℕ) → firstFrom f k xs ≡ At n → FirstAt f d k xs n
 unfolding firstFrom
@@ -80,7 +80,7 @@ first-at f d k (x ∷ xs) n e = by-test (λ g. first-at f d (k + 1) xs n g) (f x
         let l : k + 1 ≤ n = ih .0 in
         let r : n < k + 1 + length xs = ih .1 .0 in
         let s : n - k ≡ suc (n - (k + 1)) = omega (arith, l) in
-        (omega (arith, l), (omega (arith, r), (rw s (ih .1 .1 .0), rw s (none-before f d x xs (n - (k + 1)) t (ih .1 .1 .1)))))
+        (omega (arith, l), (omega (arith, r), (rw s (ih .1 .1 .0), rw s (none-up-to f d x xs (n - (k + 1)) t (ih .1 .1 .1)))))
 
 either-assoc : (a b c : Bool) → either a (either b c) ≡ either (either a b) c
 either-assoc true b c = refl
