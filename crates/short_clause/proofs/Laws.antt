@@ -23,6 +23,10 @@ use Rattle.satisfied.specs.Satisfied.{rising, satisfiedBySortedUnique}
 use Rattle.authority.specs.Authority.{quorum}
 use Rattle.short_clause.specs.ShortClause.{byClause, FirstUnsatisfied, NoneToName, NoneToNameIn, Tells, Refuses}
 
+-- where there is none to name, 0 tells it
+tells-none : {none : Type 0} {number : ℕ} (t : Threshold) (places : List ℕ) → number ≡ 0 → none → Tells none t places number
+tells-none t places z none = (((λ _. none), λ _. z), λ some. absurd (some z))
+
 module _ (t : Threshold) (places : List ℕ) where
   -- a search for the first unsatisfied clause
   searched : (n : ℕ) → firstFrom not 1 (byClause t places) ≡ At n → FirstUnsatisfied t places n
@@ -34,9 +38,6 @@ module _ (t : Threshold) (places : List ℕ) where
 
   abbrev number : ℕ
   number = clauseNamed (judgedBy t places)
-
-  none-named : number ≡ 0 → NoneToName t places → Tells (NoneToName t places) t places number
-  none-named z none = (((λ _. none), λ _. z), λ some. absurd (some z))
 
   of-simple : isSimple t ≡ true → number ≡ 0
   unfolding judged
@@ -61,7 +62,7 @@ module _ (t : Threshold) (places : List ℕ) where
   some-named n e c j (inr (inr none)) = clash (sym (eq-eqb (t .clauses) 0 none) ∙ c)
 
   by-found : (f : Found) → isSimple t ≡ false → eqb (t .clauses) 0 ≡ false → firstFrom not 1 (byClause t places) ≡ f → Tells (NoneToName t places) t places number
-  by-found Nothing e c g = let j = of-clauses Nothing e c g in none-named (ap clauseNamed j) (inl (ap isMet j))
+  by-found Nothing e c g = let j = of-clauses Nothing e c g in tells-none t places (ap clauseNamed j) (inl (ap isMet j))
   by-found (At n) e c g =
       let j = of-clauses (At n) e c g in
       let first = searched n g in
@@ -72,8 +73,8 @@ module _ (t : Threshold) (places : List ℕ) where
   names = by-test (isSimple t) (eqb (t .clauses) 0) refl refl
     where
       by-test : (a b : Bool) → isSimple t ≡ a → eqb (t .clauses) 0 ≡ b → Tells (NoneToName t places) t places number
-      by-test true b e c = none-named (of-simple e) (inr (inl e))
-      by-test false true e c = none-named (of-none e c) (inr (inr (eqb-true (t .clauses) 0 c)))
+      by-test true b e c = tells-none t places (of-simple e) (inr (inl e))
+      by-test false true e c = tells-none t places (of-none e c) (inr (inr (eqb-true (t .clauses) 0 c)))
       by-test false false e c = by-found (firstFrom not 1 (byClause t places)) e c refl
 
 -- ---- a lent list: the sorted entry
@@ -81,12 +82,9 @@ module _ (t : Threshold) (ps : List ℕ) where
   abbrev listed : ℕ
   listed = clauseNamed (satisfiedBySortedUnique t ps)
 
-  of-list : (good falls : Bool) → eqb (shapeOf t) 0 ≡ good → rising ps ≡ falls → satisfiedBySortedUnique t ps ≡ pick (both good falls) (judgedBy t ps) (Short 0)
+  of-list : (good rises : Bool) → eqb (shapeOf t) 0 ≡ good → rising ps ≡ rises → satisfiedBySortedUnique t ps ≡ pick (both good rises) (judgedBy t ps) (Short 0)
   unfolding satisfiedBySortedUnique
-  of-list good falls e r = rw (e, r)
-
-  none-in : listed ≡ 0 → NoneToNameIn t ps → Tells (NoneToNameIn t ps) t ps listed
-  none-in z none = (((λ _. none), λ _. z), λ some. absurd (some z))
+  of-list good rises e r = rw (e, r)
 
   of-good : satisfiedBySortedUnique t ps ≡ judgedBy t ps → shapeOf t ≡ 0 → rising ps ≡ true → Tells (NoneToNameIn t ps) t ps listed
   of-good j z r =
@@ -103,8 +101,8 @@ module _ (t : Threshold) (ps : List ℕ) where
   list-names = by-test (eqb (shapeOf t) 0) (rising ps) refl refl
     where
       by-test : (a b : Bool) → eqb (shapeOf t) 0 ≡ a → rising ps ≡ b → Tells (NoneToNameIn t ps) t ps listed
-      by-test false b e r = none-in (ap clauseNamed (of-list false b e r)) (inr (inr (eqb-false (shapeOf t) 0 e)))
-      by-test true false e r = none-in (ap clauseNamed (of-list true false e r)) (inr (inl r))
+      by-test false b e r = tells-none t ps (ap clauseNamed (of-list false b e r)) (inr (inr (eqb-false (shapeOf t) 0 e)))
+      by-test true false e r = tells-none t ps (ap clauseNamed (of-list true false e r)) (inr (inl r))
       by-test true true e r = of-good (of-list true true e r) (eqb-true (shapeOf t) 0 e) r
 
 -- ---- 27 and 28
