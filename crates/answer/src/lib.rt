@@ -1,10 +1,12 @@
 // An answer: document 01's number with its two details.
+#![tactic(auto)]
+
 ghost use Rattle.std.specs.Prelude.{◌≡◌};
 ghost use Rattle.answer.specs.Answer.{refused, accepted};
 
 use number::Number;
 
-#[derive(Drop)]
+#[derive(Clone, Copy)]
 pub struct Answer {
     pub number: u8,
     pub a: Number,

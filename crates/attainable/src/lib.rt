@@ -1,11 +1,13 @@
 // Whether a threshold can be satisfied at all, by the keys that there are.
+#![tactic(auto)]
+
 ghost use Rattle.std.specs.Prelude.{◌≡◌};
 ghost use Rattle.attainable.specs.Attainable.{attainable_by};
 
 use threshold::Threshold;
 
 // The number is 0 where there is an answer, 3 or 4 where the question is ill-shaped; then `yes` is false.
-#[derive(Drop)]
+#[derive(Clone, Copy)]
 pub struct Attained {
     pub number: u8,
     pub yes: bool,

@@ -1,4 +1,6 @@
 // The three counts: signatures against an authority (27), exposed commitments (28), receipts of witnesses (32).
+#![tactic(auto)]
+
 ghost use Rattle.std.specs.Prelude.{◌≡◌, length};
 ghost use Rattle.items.specs.Items.{listed};
 ghost use Rattle.places.specs.Places.{places_in};
@@ -10,21 +12,21 @@ use threshold::{Judgement, Threshold};
 use verification::Sigers;
 
 // Who may sign.
-#[derive(Drop)]
+#[derive(Clone, Copy)]
 pub struct Authority {
     pub keys: Items,
     pub threshold: Threshold,
 }
 
 // What the next rotation must expose.
-#[derive(Drop)]
+#[derive(Clone, Copy)]
 pub struct Commitment {
     pub next: Items,
     pub threshold: Threshold,
 }
 
 // Who must have seen an event, and how many of them.
-#[derive(Drop)]
+#[derive(Clone, Copy)]
 pub struct Witnessing {
     pub witnesses: Items,
     pub toad: u32,

@@ -11,7 +11,7 @@ use toad::Taken;
 
 // What a call says: its answer, with a value behind it or not, a judgement, or yes or no. A bad request is none that compare
 // makes.
-#[derive(Drop)]
+#[derive(Clone, Copy)]
 enum Said {
     Plain(Answer),
     With(Answer, u32),

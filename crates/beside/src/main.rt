@@ -3,6 +3,8 @@
 //     beside [--states] [--fold]    keyreport's lines; --states: the held state after each; --fold: the unchecked fold
 //     beside --calls                direct calls, as compare encodes them
 //     beside --mixed                one input for all of these: a record with mark 0 says how the following ones are meant
+#![tactic(auto)]
+
 mod calls;
 mod read;
 mod records;

@@ -12,39 +12,39 @@ use wire::Span as Signed;
 // Behind everything.
 const NOWHERE: usize = usize::MAX;
 
-#[derive(Drop)]
+#[derive(Clone, Copy)]
 pub struct Small {
     pub n: u32,
     pub next: usize,
 }
 
-#[derive(Drop)]
+#[derive(Clone, Copy)]
 pub struct Large {
     pub n: u64,
     pub next: usize,
 }
 
-#[derive(Drop)]
+#[derive(Clone, Copy)]
 pub struct Listed {
     pub items: Items,
     pub next: usize,
 }
 
 // Keys, or next digests, with the threshold over them.
-#[derive(Drop)]
+#[derive(Clone, Copy)]
 pub struct Group {
     pub items: Items,
     pub threshold: Threshold,
     pub next: usize,
 }
 
-#[derive(Drop)]
+#[derive(Clone, Copy)]
 pub struct Bar {
     pub threshold: Threshold,
     pub next: usize,
 }
 
-#[derive(Drop)]
+#[derive(Clone, Copy)]
 pub struct Wired {
     pub sigs: Sigers,
     pub next: usize,

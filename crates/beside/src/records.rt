@@ -3,7 +3,7 @@ use crate::{calls, read, text};
 use answer::Answer;
 use report::Tally;
 
-#[derive(Drop)]
+#[derive(Clone, Copy)]
 pub struct Mode {
     pub states: bool,
     pub fold: bool,
@@ -12,7 +12,7 @@ pub struct Mode {
 }
 
 // What goes from record to record: beside the counts, how many bytes of its buffer the state has.
-#[derive(Drop)]
+#[derive(Clone, Copy)]
 pub struct Run {
     pub mode: Mode,
     pub tally: Tally,

@@ -1,9 +1,11 @@
 // Config traits: at most 8, each 1 to 15. Their shape, and whether EstOnly is among them.
+#![tactic(auto)]
+
 ghost use Rattle.std.specs.Prelude.{◌≡◌, eqb, drop};
 ghost use Rattle.lists.specs.Lists.{all};
 ghost use Rattle.config.specs.Config.{traits_of, is_trait, shape_of, establishment_only};
 
-#[derive(Drop)]
+#[derive(Clone, Copy)]
 pub struct Config {
     pub count: usize,
     pub traits: [u8; 8],

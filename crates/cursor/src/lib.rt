@@ -1,27 +1,29 @@
 // Big-endian numbers and runs of bytes at a place of a lent slice. Every function here takes any place.
+#![tactic(auto)]
+
 ghost use Rattle.std.specs.Prelude.{◌≡◌, ◌≤◌};
 ghost use Rattle.format.specs.Parse.{byte_at, num_at};
 ghost use Rattle.cursor.specs.Cursor.{is8, is16, is32, is64, Below64, raw_of};
 
-#[derive(Drop)]
+#[derive(Clone, Copy)]
 pub enum Num8 {
     Of(u8, usize),
     Short,
 }
 
-#[derive(Drop)]
+#[derive(Clone, Copy)]
 pub enum Num16 {
     Of(u16, usize),
     Short,
 }
 
-#[derive(Drop)]
+#[derive(Clone, Copy)]
 pub enum Num32 {
     Of(u32, usize),
     Short,
 }
 
-#[derive(Drop)]
+#[derive(Clone, Copy)]
 pub enum Num64 {
     Of(u64, usize),
     Short,

@@ -1,4 +1,6 @@
 // The device's static library: the calls on a state that lies in a lent buffer, as its snapshot's bytes or as nothing.
+#![tactic(auto)]
+
 ghost use Rattle.std.specs.Prelude.{◌≡◌, false};
 ghost use Rattle.snapshot.specs.Bytes.{flag_byte};
 ghost use Rattle.attainable.specs.Attainable.{attained};

@@ -1,4 +1,6 @@
 // A holder of nothing: where every run begins.
+#![tactic(auto)]
+
 ghost use Rattle.std.specs.Prelude.{◌≡◌, []};
 ghost use Rattle.items.specs.Items.{packed};
 ghost use Rattle.state.specs.State.{no_threshold};

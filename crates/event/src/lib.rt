@@ -1,4 +1,6 @@
 // Events by value: where they stand in the log, what they establish, and the signatures and receipts that came with them.
+#![tactic(auto)]
+
 use authority::{Authority, Commitment};
 use config::Config;
 use item::Item;
@@ -6,7 +8,7 @@ use items::Items;
 use number::Number;
 use verification::Sigers;
 
-#[derive(Drop)]
+#[derive(Clone, Copy)]
 pub enum Ilk {
     Inception,
     Rotation,
@@ -16,7 +18,7 @@ pub enum Ilk {
 }
 
 // An inception has no prior.
-#[derive(Drop)]
+#[derive(Clone, Copy)]
 pub struct Head {
     pub prefix: Item,
     pub sn: Number,
@@ -25,7 +27,7 @@ pub struct Head {
 }
 
 // What an inception or a rotation sets up. `additions` are an inception's witnesses; it has no removals, a rotation no config.
-#[derive(Drop)]
+#[derive(Clone, Copy)]
 pub struct Body {
     pub authority: Authority,
     pub commitment: Commitment,
@@ -36,7 +38,7 @@ pub struct Body {
 }
 
 // A field that an event's ilk does not have is not looked at.
-#[derive(Drop)]
+#[derive(Clone, Copy)]
 pub struct Event {
     pub ilk: Ilk,
     pub head: Head,

@@ -1,4 +1,6 @@
 // What the checks need of up to 48 signatures and 48 receipts: three sets of places, and what they come to.
+#![tactic(auto)]
+
 ghost use Rattle.std.specs.Prelude.{◌≡◌};
 ghost use Rattle.verification.specs.Verification.{signatures};
 ghost use Rattle.evidence.specs.Evidence.{evidence_of, signed_on, exposed_on, receipted_on};
@@ -8,7 +10,7 @@ use threshold::Threshold;
 use verification::Sigers;
 
 // Verified keys, exposed commitments, and witnesses with a verified receipt.
-#[derive(Drop)]
+#[derive(Clone, Copy)]
 pub struct Evidence {
     pub verified: u16,
     pub exposed: u16,

@@ -1,5 +1,7 @@
 // Fields of a record: an item, a list of items, config traits, a flag, a sequence number. Items and lists are scanned for their
 // places first and copied after, so that nothing is copied of a record that is refused.
+#![tactic(auto)]
+
 ghost use Rattle.std.specs.Prelude.{◌≡◌, ◌+◌, ◌*◌, ◌≤◌, length};
 ghost use Rattle.items.specs.Items.{packed};
 ghost use Rattle.config.specs.Config.{packed_traits};
@@ -14,33 +16,33 @@ use items::Items;
 use number::Number;
 
 // A field's place and the place after it, or 3.
-#[derive(Drop)]
+#[derive(Clone, Copy)]
 pub enum Place {
     At(usize, usize),
     Bad,
 }
 
 // A list's count, its first place and the place after it; or 3 or 4.
-#[derive(Drop)]
+#[derive(Clone, Copy)]
 pub enum Span {
     Of(usize, usize, usize),
     No(u8),
 }
 
-#[derive(Drop)]
+#[derive(Clone, Copy)]
 pub enum Flag {
     Of(bool, usize),
     Bad,
 }
 
-#[derive(Drop)]
+#[derive(Clone, Copy)]
 pub enum Sn {
     Of(Number, usize),
     Bad,
 }
 
 // What a list is made of.
-#[derive(Drop)]
+#[derive(Clone, Copy)]
 enum Entry {
     Item(Kind),
     Trait,

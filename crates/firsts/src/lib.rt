@@ -1,5 +1,7 @@
 // Which signatures of a list are first ones, no copy of one before them: their positions in the input, where they stay and are compared. At most 48 are
 // the bits of one word.
+#![tactic(auto)]
+
 ghost use Rattle.std.specs.Prelude.{◌≡◌};
 ghost use Rattle.firsts.specs.Firsts.{has_first, with_first};
 

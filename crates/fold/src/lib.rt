@@ -1,4 +1,6 @@
 // The unchecked fold: what accepted events make of a state, with nothing checked but shape and room.
+#![tactic(auto)]
+
 ghost use Rattle.std.specs.Prelude.{◌≡◌};
 ghost use Rattle.answer.specs.Answer.{accepted, refused};
 ghost use Rattle.items.specs.Items.{packed};

@@ -1,1 +1,2 @@
 // The fields of house records, as document 01 writes them: their definitions stand in specs/. There is no code here.
+#![tactic(auto)]

@@ -1,4 +1,6 @@
 // What bytes hold, by places: a record's body by its mark, the first record of a byte string, the state in a buffer. Nothing is copied, nothing is judged.
+#![tactic(auto)]
+
 ghost use Rattle.std.specs.Prelude.{◌≡◌, ◌+◌, ◌*◌, length, take};
 ghost use Rattle.layout.specs.Records.{inception_at, rotation_at, interaction_at, snapshot_at, as_event, as_snapshot, content_of, first_of, next_in};
 ghost use Rattle.found.specs.Kept.{state_in, kept_in};
@@ -7,7 +9,7 @@ ghost use Rattle.found.specs.Found.{content_is, Placed, first_is, Within, kept_i
 use cursor::Num16;
 use record::{EventMarks, EventScan, StateMarks, StateScan};
 
-#[derive(Drop)]
+#[derive(Clone, Copy)]
 pub enum Read {
     Inception(EventMarks),
     Rotation(EventMarks),
@@ -19,13 +21,13 @@ pub enum Read {
 }
 
 // The mark, and where the next record starts.
-#[derive(Drop)]
+#[derive(Clone, Copy)]
 pub enum First {
     Of(u16, usize),
     Short,
 }
 
-#[derive(Drop)]
+#[derive(Clone, Copy)]
 pub enum Held {
     Of(StateMarks),
     Nothing,

@@ -1,4 +1,6 @@
 // Records offered to a state, or folded into it, in place: the state stays the bytes that it lies in, and no state is made by value.
+#![tactic(auto)]
+
 ghost use Rattle.std.specs.Prelude.{◌≡◌, Bool, ◌+◌, ◌-◌, ◌≤◌, length, take, drop};
 ghost use Rattle.lists.specs.Lists.{pick};
 ghost use Rattle.answer.specs.Answer.{accepted, refused};

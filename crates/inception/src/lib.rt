@@ -1,4 +1,6 @@
 // The identity law of an inception: a basic prefix is its own sole key, and a non-transferable one commits to nothing.
+#![tactic(auto)]
+
 ghost use Rattle.std.specs.Prelude.{◌≡◌, eqb};
 ghost use Rattle.lists.specs.Lists.{both};
 ghost use Rattle.answer.specs.Answer.{first_refusal};

@@ -1,4 +1,6 @@
 // The decision: an event offered to an empty or held state gets document 01's answer and the next state.
+#![tactic(auto)]
+
 ghost use Rattle.std.specs.Prelude.{◌≡◌, true};
 ghost use Rattle.item.specs.Item.{item_fits};
 ghost use Rattle.item.specs.declared.Kind.TheVariants.{Prefix};
@@ -18,7 +20,7 @@ use evidence::Evidence;
 use state::{Holder, KeyState};
 
 // The answer, and the holder after it: as it came, where the event is refused.
-#[derive(Drop)]
+#[derive(Clone, Copy)]
 pub struct Offered {
     pub answer: Answer,
     pub holder: Holder,

@@ -1,16 +1,18 @@
 // Items: a code byte and 32 bytes. The class of a code, and equality over all 33 bytes.
+#![tactic(auto)]
+
 ghost use Rattle.std.specs.Prelude.{◌≡◌, replicate};
 ghost use Rattle.lists.specs.Lists.{same_numbers};
 ghost use Rattle.item.specs.Item.{item_shape, class_of, fits_of, basic_of, transferable_of, same_item, zero_item, is_zero};
 ghost use Rattle.item.specs.declared.Kind.TheVariants.{Said};
 
-#[derive(Drop)]
+#[derive(Clone, Copy)]
 pub struct Item {
     pub code: u8,
     pub raw: [u8; 32],
 }
 
-#[derive(Drop)]
+#[derive(Clone, Copy)]
 pub enum Class {
     NonTransferableKey,
     TransferableKey,
@@ -19,7 +21,7 @@ pub enum Class {
 }
 
 // What a place of a record asks of its item.
-#[derive(Drop)]
+#[derive(Clone, Copy)]
 pub enum Kind {
     Prefix,
     Key,

@@ -1,4 +1,6 @@
 // Lists of at most 16 items: a count and 16 places, the unused ones zero. Their shape, and the first place of an item.
+#![tactic(auto)]
+
 ghost use Rattle.std.specs.Prelude.{◌≡◌, [], drop};
 ghost use Rattle.lists.specs.Lists.{all, first_from};
 ghost use Rattle.item.specs.Item.{item_fits, is_zero, same_item};
@@ -7,7 +9,7 @@ ghost use Rattle.items.specs.Items.{listed, packed, shape_of};
 use item::{Item, Kind};
 use lists::Found;
 
-#[derive(Drop)]
+#[derive(Clone, Copy)]
 pub struct Items {
     pub count: usize,
     pub at: [Item; 16],

@@ -1,4 +1,6 @@
 // Events judged where they stand: a record's bytes against a snapshot's, by their marks. No state and no event is made.
+#![tactic(auto)]
+
 ghost use Rattle.std.specs.Prelude.{◌≡◌, [], eqb};
 ghost use Rattle.lists.specs.Lists.{both};
 ghost use Rattle.answer.specs.Answer.{first_refusal};

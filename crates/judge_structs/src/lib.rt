@@ -1,5 +1,7 @@
 // The checks of `rules` on an event as structs, in document 01's order, on the sets of places that the signatures and receipts
 // came to.
+#![tactic(auto)]
+
 ghost use Rattle.std.specs.Prelude.{◌≡◌, [], ◌∷◌};
 ghost use Rattle.answer.specs.Answer.{first_refusal};
 ghost use Rattle.items.specs.Items.{listed};

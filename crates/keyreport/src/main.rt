@@ -1,5 +1,7 @@
 // keyreport: reads records from standard input and writes document 01's lines to standard output, in bounded memory. The state
 // stays the bytes that it is saved as.
+#![tactic(auto)]
+
 ghost use Rattle.std.specs.Prelude.{◌≡◌, ◌+◌, ◌≤◌, length};
 ghost use Rattle.in_place.specs.Calls.{body_offered_in};
 ghost use Rattle.keyreport.specs.Run.{mark_at, body_at, Fits};
@@ -18,7 +20,7 @@ const OUT: usize = 2048;
 const STATE: usize = 2285;
 
 // Where the next line begins, or a write that failed.
-#[derive(Drop)]
+#[derive(Clone, Copy)]
 enum Room {
     From(usize),
     Failed,

@@ -1,5 +1,7 @@
 // The lent list of receipts: walked once, each element handed to a by-value counting step. None is stored: a copy is looked for in the lent list itself, at
 // the positions of the first ones.
+#![tactic(auto)]
+
 ghost use Rattle.std.specs.Prelude.{◌≡◌};
 ghost use Rattle.lists.specs.Lists.{both};
 ghost use Rattle.firsts.specs.Firsts.{has_first};
@@ -11,7 +13,7 @@ use answer::Answer;
 use verification::{Counted, Siger};
 
 // Of the receipts so far: which positions have first ones, the places that they speak for, and whether every ondex fits its flag.
-#[derive(Drop)]
+#[derive(Clone, Copy)]
 struct Tally {
     pub firsts: u64,
     pub counted: Counted,

@@ -1,4 +1,6 @@
 // The lent key state: an event offered to a held state by value, and the same through a reference to it.
+#![tactic(auto)]
+
 ghost use Rattle.std.specs.Prelude.{◌≡◌};
 ghost use Rattle.lent_state.specs.Ingested.{ingested};
 
@@ -7,7 +9,7 @@ use event::Event;
 use state::KeyState;
 
 // The answer, and the state after it: as it came, where the event is refused.
-#[derive(Drop)]
+#[derive(Clone, Copy)]
 pub struct Ingested {
     pub answer: Answer,
     pub state: KeyState,

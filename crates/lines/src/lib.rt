@@ -1,4 +1,6 @@
 // Document 01's lines as bytes: one for each answer, and the last one. Each is written over a lent buffer from a place on.
+#![tactic(auto)]
+
 ghost use Rattle.std.specs.Prelude.{◌≡◌, ◌≤◌, ◌<◌, length};
 ghost use Rattle.writer.specs.Writing.{Room, Wrote};
 ghost use Rattle.lines.specs.Lines.{digits, numeral, detail, decimal_then, detail_then, hides_mark, mark_then, reached_then, line, end_line, written};

@@ -1,4 +1,6 @@
 // Witness lists: the faults of a list and of a change, in the Rust's order, and the list after a change.
+#![tactic(auto)]
+
 ghost use Rattle.std.specs.Prelude.{◌≡◌, [], ◌<◌, ◌≤◌, take};
 ghost use Rattle.lists.specs.Lists.{pick, either, filter, first_from, is_at};
 ghost use Rattle.item.specs.Item.{is_transferable};
@@ -13,7 +15,7 @@ use items::Items;
 use lists::Found;
 
 // The answer, and the new list where it is 0; else the empty list.
-#[derive(Drop)]
+#[derive(Clone, Copy)]
 pub struct Change {
     pub answer: Answer,
     pub list: Items,

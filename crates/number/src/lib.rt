@@ -1,14 +1,16 @@
 // Numbers of up to 128 bits as two 64-bit words: sequence numbers, and the details of an answer.
+#![tactic(auto)]
+
 ghost use Rattle.std.specs.Prelude.{◌≡◌, ltb};
 ghost use Rattle.number.specs.Number.{value, small, same_number, next_of};
 
-#[derive(Drop)]
+#[derive(Clone, Copy)]
 pub struct Number {
     pub high: u64,
     pub low: u64,
 }
 
-#[derive(Drop)]
+#[derive(Clone, Copy)]
 pub enum Successor {
     Of(Number),
     Last,

@@ -1,5 +1,7 @@
 // The parts that records share: heads, and what an inception, a rotation and a snapshot set up. They are scanned into marks,
 // which are numbers and places only, and copied after.
+#![tactic(auto)]
+
 ghost use Rattle.std.specs.Prelude.{◌≡◌};
 ghost use Rattle.parts.specs.Parts.{head_is, quorum_is, signers_is, body_is};
 ghost use Rattle.parts.specs.Parts.{refusal_of_span, refusal_of_marked, refusal_of_quorum, refusal_of_signers};
@@ -14,14 +16,14 @@ use item::Kind;
 use number::Number;
 use threshold_field::{Marked, Marks};
 
-#[derive(Drop)]
+#[derive(Clone, Copy)]
 pub struct Listing {
     pub count: usize,
     pub first: usize,
 }
 
 // An inception has no prior: its place is the end, where copying gives zeros.
-#[derive(Drop)]
+#[derive(Clone, Copy)]
 pub struct HeadMarks {
     pub prefix: usize,
     pub sn: Number,
@@ -30,20 +32,20 @@ pub struct HeadMarks {
 }
 
 // Items with the threshold over them: keys, or next digests.
-#[derive(Drop)]
+#[derive(Clone, Copy)]
 pub struct QuorumMarks {
     pub items: Listing,
     pub threshold: Marks,
 }
 
 // Who signs now, and who may sign next.
-#[derive(Drop)]
+#[derive(Clone, Copy)]
 pub struct SignersMarks {
     pub authority: QuorumMarks,
     pub commitment: QuorumMarks,
 }
 
-#[derive(Drop)]
+#[derive(Clone, Copy)]
 pub struct BodyMarks {
     pub signers: SignersMarks,
     pub additions: Listing,
@@ -52,25 +54,25 @@ pub struct BodyMarks {
     pub config: Listing,
 }
 
-#[derive(Drop)]
+#[derive(Clone, Copy)]
 pub enum HeadScan {
     Of(HeadMarks, usize),
     Bad,
 }
 
-#[derive(Drop)]
+#[derive(Clone, Copy)]
 enum QuorumScan {
     Of(QuorumMarks, usize),
     No(u8),
 }
 
-#[derive(Drop)]
+#[derive(Clone, Copy)]
 enum SignersScan {
     Of(SignersMarks, usize),
     No(u8),
 }
 
-#[derive(Drop)]
+#[derive(Clone, Copy)]
 pub enum BodyScan {
     Of(BodyMarks, usize),
     No(u8),

@@ -1,4 +1,6 @@
 // Places below 16 as bits of a u16, and how many there are.
+#![tactic(auto)]
+
 ghost use Rattle.std.specs.Prelude.{◌≡◌, false, ltb, length};
 ghost use Rattle.lists.specs.Lists.{pick};
 ghost use Rattle.places.specs.Places.{with_place, cut_to, set_of, among, bit_at, places_in};

@@ -1,4 +1,6 @@
 // The bodies of records, scanned into marks. The signatures of an event stay where they stand; a snapshot is copied as a state.
+#![tactic(auto)]
+
 ghost use Rattle.std.specs.Prelude.{◌≡◌};
 ghost use Rattle.event.specs.declared.Ilk.TheVariants.{Inception, Rotation, Interaction};
 ghost use Rattle.layout.specs.Records.{inception_at, rotation_at, interaction_at, snapshot_at};
@@ -17,14 +19,14 @@ use number::Number;
 use parts::{BodyMarks, BodyScan, HeadMarks, HeadScan, Listing};
 use state::{EstablishmentRef, KeyState};
 
-#[derive(Drop)]
+#[derive(Clone, Copy)]
 pub struct TailMarks {
     pub anchors: u32,
     pub sigs: Listing,
     pub receipts: Listing,
 }
 
-#[derive(Drop)]
+#[derive(Clone, Copy)]
 pub struct EventMarks {
     pub head: HeadMarks,
     pub body: BodyMarks,
@@ -32,14 +34,14 @@ pub struct EventMarks {
 }
 
 // What a snapshot has behind its config.
-#[derive(Drop)]
+#[derive(Clone, Copy)]
 pub struct LastMarks {
     pub transferable: bool,
     pub sn: Number,
     pub said: usize,
 }
 
-#[derive(Drop)]
+#[derive(Clone, Copy)]
 pub struct StateMarks {
     pub head: HeadMarks,
     pub latest: u8,
@@ -47,25 +49,25 @@ pub struct StateMarks {
     pub last: LastMarks,
 }
 
-#[derive(Drop)]
+#[derive(Clone, Copy)]
 enum TailScan {
     Of(TailMarks, usize),
     No(u8),
 }
 
-#[derive(Drop)]
+#[derive(Clone, Copy)]
 pub enum EventScan {
     Of(EventMarks, usize),
     No(u8),
 }
 
-#[derive(Drop)]
+#[derive(Clone, Copy)]
 enum LastScan {
     Of(LastMarks, usize),
     Bad,
 }
 
-#[derive(Drop)]
+#[derive(Clone, Copy)]
 pub enum StateScan {
     Of(StateMarks, usize),
     No(u8),

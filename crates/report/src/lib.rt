@@ -1,4 +1,6 @@
 // What is reported of a run: a line for each answer, the counts that go from one to the next, and the last line.
+#![tactic(auto)]
+
 ghost use Rattle.std.specs.Prelude.{◌≡◌};
 ghost use Rattle.lines.specs.Lines.{written};
 ghost use Rattle.found.specs.Kept.{kept_in};
@@ -9,14 +11,14 @@ use found::Held;
 use number::Number;
 
 // How many lines there are, and how many have answer 0.
-#[derive(Drop)]
+#[derive(Clone, Copy)]
 pub struct Tally {
     pub offered: u64,
     pub accepted: u64,
 }
 
 // The tally after a line, and the place behind the line.
-#[derive(Drop)]
+#[derive(Clone, Copy)]
 pub struct Told {
     pub tally: Tally,
     pub at: usize,

@@ -1,4 +1,6 @@
 // A saved state read back into structs: what a state's bytes hold, as a holder. The inverse of snapshot's `save`.
+#![tactic(auto)]
+
 ghost use Rattle.std.specs.Prelude.{◌≡◌};
 ghost use Rattle.found.specs.Kept.{none, state_in};
 ghost use Rattle.restore.specs.Restore.{restored_is};
@@ -7,7 +9,7 @@ use found::Held;
 use state::Holder;
 
 // The number is 0 where the bytes are a state or nothing, else 1 to 4 with nothing held.
-#[derive(Drop)]
+#[derive(Clone, Copy)]
 pub struct Restored {
     pub number: u8,
     pub holder: Holder,

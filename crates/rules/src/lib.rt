@@ -1,5 +1,7 @@
 // The checks that document 01's lists are made of and that both ways through them share: by value (`judge_structs`) and in place
 // (`judge`). The lists themselves are in specs/Rules.
+#![tactic(auto)]
+
 ghost use Rattle.std.specs.Prelude.{◌≡◌, []};
 ghost use Rattle.number.specs.Number.{next_of};
 ghost use Rattle.answer.specs.Answer.{refused, refuse_unless, first_refusal};

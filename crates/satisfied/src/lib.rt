@@ -1,5 +1,7 @@
 // Who satisfies a threshold: a lent list of places, of any length, judged by its places below 16 and by how many there are.
 // A judgement that is not met names the first clause that is short, counted from 1, or 0 where there is none to name.
+#![tactic(auto)]
+
 ghost use Rattle.std.specs.Prelude.{◌≡◌, leb, length, drop};
 ghost use Rattle.places.specs.Places.{among};
 ghost use Rattle.satisfied.specs.Satisfied.{rising, sorted_unique, satisfied_by_sorted_unique, satisfied_by};

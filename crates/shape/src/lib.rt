@@ -1,4 +1,6 @@
 // The shape of structs: before anything else a struct entry looks at the state, then at the event, each in field order.
+#![tactic(auto)]
+
 ghost use Rattle.std.specs.Prelude.{◌≡◌};
 ghost use Rattle.event.specs.declared.Ilk.TheVariants.{Inception, Rotation, Interaction};
 ghost use Rattle.shape.specs.Event.{first_head, later_head, own_shape, next_shape, body_shape, signed_shape, shape_as, event_shape};

@@ -1,4 +1,6 @@
 // Saving: the KS record of a held state, or one put together from runs of bytes, written over the start of a lent buffer.
+#![tactic(auto)]
+
 ghost use Rattle.std.specs.Prelude.{◌≡◌, ◌≤◌, true, length, take};
 ghost use Rattle.snapshot.specs.Bytes.{words_bytes, item_bytes, each, items_bytes, counted, config_bytes, weight_bytes, threshold_bytes, flag_byte, Sized};
 ghost use Rattle.snapshot.specs.Saved.{point_bytes, group_bytes, head_bytes, tail_bytes, body_bytes, encoded, saved};
@@ -260,7 +262,7 @@ pub fn save(h: Holder, buf: &mut [u8]) -> Answer
 }
 
 // The fields of a snapshot that are not taken over as bytes.
-#[derive(Drop)]
+#[derive(Clone, Copy)]
 pub struct Loose {
     pub prefix: Item,
     pub latest: u8,

@@ -1,4 +1,6 @@
 // The key state by value, the holder of one, and what an accepted event makes of it.
+#![tactic(auto)]
+
 ghost use Rattle.std.specs.Prelude.{◌≡◌};
 ghost use Rattle.state.specs.State.{moves_with, begun, rotated, stepped, holding};
 
@@ -10,14 +12,14 @@ use items::Items;
 use number::Number;
 
 // Where the last inception or rotation stands.
-#[derive(Drop)]
+#[derive(Clone, Copy)]
 pub struct EstablishmentRef {
     pub sn: Number,
     pub said: Item,
 }
 
 // `latest` is the type of the latest event: 0 inception, 1 rotation, 2 interaction.
-#[derive(Drop)]
+#[derive(Clone, Copy)]
 pub struct KeyState {
     pub prefix: Item,
     pub sn: Number,
@@ -32,7 +34,7 @@ pub struct KeyState {
 }
 
 // Empty, or one state. An empty holder's state is not looked at.
-#[derive(Drop)]
+#[derive(Clone, Copy)]
 pub struct Holder {
     pub held: bool,
     pub state: KeyState,

@@ -1,4 +1,6 @@
 // Standard input, record by record, through one window of bytes, and standard output: input of any length in bounded memory.
+#![tactic(auto)]
+
 ghost use Rattle.std.specs.Prelude.{◌≡◌, true, ◌+◌, ◌-◌, ◌≤◌, ◌<◌, length, take, drop};
 ghost use Rattle.stream.specs.Window.{size_of, Stay, Reached, Longer, Holds, Stands, IsCut, Found};
 
@@ -9,7 +11,7 @@ use cursor::Num16;
 const KEPT: usize = 10090;
 
 // The bytes of the window that are read and not used.
-#[derive(Drop)]
+#[derive(Clone, Copy)]
 pub struct Span {
     pub from: usize,
     pub to: usize,
@@ -17,7 +19,7 @@ pub struct Span {
 
 // A record in the window, from its mark on, and where the unused bytes behind it end. Of a record that is longer than the window
 // these are the mark, the length and the deciding bytes; the others are stepped over.
-#[derive(Drop)]
+#[derive(Clone, Copy)]
 pub struct Place {
     pub from: usize,
     pub to: usize,
@@ -26,7 +28,7 @@ pub struct Place {
 
 // A record; bytes that are none, where the input ends; no byte, where it ends; or a read that failed, which is not the end of the
 // input: standard error says why. It has failed too where the window is too short or the span is none.
-#[derive(Drop)]
+#[derive(Clone, Copy)]
 pub enum Next {
     Record(Place),
     Cut,
@@ -35,14 +37,14 @@ pub enum Next {
 }
 
 // What reading did: there are bytes up to a place, the input has ended, or a read failed.
-#[derive(Drop)]
+#[derive(Clone, Copy)]
 enum Input {
     To(usize),
     Ended,
     Failed,
 }
 
-#[derive(Drop)]
+#[derive(Clone, Copy)]
 enum Held {
     Of(Span),
     Failed,

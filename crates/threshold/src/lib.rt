@@ -1,4 +1,6 @@
 // Signing thresholds: a simple number, or clauses of weights. Their shape, whether they are well formed, and who satisfies them.
+#![tactic(auto)]
+
 ghost use Rattle.std.specs.Prelude.{◌≡◌, eqb, ltb, take, drop};
 ghost use Rattle.lists.specs.Lists.{pick, both, any, all};
 ghost use Rattle.places.specs.Places.{bit_at};
@@ -9,7 +11,7 @@ use answer::Answer;
 use weight::{Sum, Weight};
 
 // Tag 0 is simple, tag 1 weighted: clause after clause, each with the size that stands in `sizes`, in one run of weights.
-#[derive(Drop)]
+#[derive(Clone, Copy)]
 pub struct Threshold {
     pub tag: u8,
     pub simple: u64,
@@ -19,7 +21,7 @@ pub struct Threshold {
 }
 
 // Satisfied, or short: at the first clause that is not reached, counted from 1, or 0 where there is none to name.
-#[derive(Drop)]
+#[derive(Clone, Copy)]
 pub enum Judgement {
     Met,
     Short(usize),

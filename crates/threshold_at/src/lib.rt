@@ -1,4 +1,6 @@
 // A threshold judged where it stands: only one with weights is copied.
+#![tactic(auto)]
+
 ghost use Rattle.std.specs.Prelude.{◌≡◌, leb, length};
 ghost use Rattle.lists.specs.Lists.{pick};
 ghost use Rattle.answer.specs.Answer.{refused, accepted};

@@ -1,4 +1,6 @@
 // A threshold in a record: scanned for its places first and copied after.
+#![tactic(auto)]
+
 ghost use Rattle.std.specs.Prelude.{◌≡◌, ◌+◌, ◌≤◌, length};
 ghost use Rattle.threshold_field.specs.ThresholdField.{marked_is, total_is, Small, total_at, weighted_at, marks_as, marks_at};
 ghost use Rattle.threshold_field.specs.ThresholdField.{weight_of, sizes_of, weights_of, threshold_of};
@@ -9,7 +11,7 @@ use weight::Weight;
 
 // What a scan keeps: the tag, the simple number, how many clauses and weights there are, and where the first size and the first
 // weight stand.
-#[derive(Drop)]
+#[derive(Clone, Copy)]
 pub struct Marks {
     pub tag: u8,
     pub simple: u64,
@@ -20,14 +22,14 @@ pub struct Marks {
 }
 
 // The marks and the place after the threshold; or 3 or 4.
-#[derive(Drop)]
+#[derive(Clone, Copy)]
 pub enum Marked {
     Of(Marks, usize),
     No(u8),
 }
 
 // What the sizes come to, at most 16, and the place after them; or 3 or 4.
-#[derive(Drop)]
+#[derive(Clone, Copy)]
 enum Total {
     Of(usize, usize),
     No(u8),

@@ -1,14 +1,16 @@
 // The witness threshold: ample for a number of witnesses, exact for one, or as it stands on the wire.
+#![tactic(auto)]
+
 ghost use Rattle.std.specs.Prelude.{◌≡◌, ◌<◌, ◌^◌, min, max};
 ghost use Rattle.toad.specs.Toad.{taken, not_taken, majority, ample_of, ample_answer, in_range, exact_answer, witness_threshold};
 
 use answer::Answer;
 
-#[derive(Drop)]
+#[derive(Clone, Copy)]
 pub struct Toad(pub u32);
 
 // The answer, and the threshold where it is 0; else threshold 0.
-#[derive(Drop)]
+#[derive(Clone, Copy)]
 pub struct Taken {
     pub answer: Answer,
     pub toad: Toad,

@@ -1,4 +1,6 @@
 // Signatures, and the places that they speak for: an index finds a key, an ondex a commitment, and neither the other.
+#![tactic(auto)]
+
 ghost use Rattle.std.specs.Prelude.{◌≡◌, drop};
 ghost use Rattle.lists.specs.Lists.{both, all, same_numbers};
 ghost use Rattle.firsts.specs.Firsts.{has_first};
@@ -7,13 +9,13 @@ ghost use Rattle.verification.specs.Verification.{exposed_with, counted_with, co
 
 use lists::Found;
 
-#[derive(Drop)]
+#[derive(Clone, Copy)]
 pub struct Index(pub u32);
 
-#[derive(Drop)]
+#[derive(Clone, Copy)]
 pub struct Ondex(pub u32);
 
-#[derive(Drop)]
+#[derive(Clone, Copy)]
 pub struct Siger {
     pub code: u8,
     pub index: Index,
@@ -25,7 +27,7 @@ pub struct Siger {
 }
 
 // What a signature says without its bytes: the places that it names, and its verdicts.
-#[derive(Drop)]
+#[derive(Clone, Copy)]
 pub struct Claim {
     pub index: Index,
     pub dual: bool,
@@ -34,14 +36,14 @@ pub struct Claim {
     pub matches: bool,
 }
 
-#[derive(Drop)]
+#[derive(Clone, Copy)]
 pub struct Sigers {
     pub count: usize,
     pub at: [Siger; 48],
 }
 
 // Places of verified keys and of exposed commitments.
-#[derive(Drop)]
+#[derive(Clone, Copy)]
 pub struct Counted {
     pub verified: u16,
     pub exposed: u16,

@@ -1,11 +1,13 @@
 // The walk over a whole byte string: record after record, refused or not, offered to a state that stays the bytes it lies in.
+#![tactic(auto)]
+
 ghost use Rattle.std.specs.Prelude.{◌≡◌, ◌<◌, ◌^◌, ◌+◌};
 ghost use Rattle.walk.specs.Walk.{lent, end_in, walked_in, counted_in};
 
 use answer::Answer;
 
 // How many records were accepted, and how many there were.
-#[derive(Drop)]
+#[derive(Clone, Copy)]
 pub struct Walked {
     pub accepted: usize,
     pub offered: usize,

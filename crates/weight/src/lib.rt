@@ -1,21 +1,23 @@
 // Weights of a clause, and their sum: left to right, in checked u64.
+#![tactic(auto)]
+
 ghost use Rattle.std.specs.Prelude.{◌≡◌, ◌+◌, ◌*◌};
 ghost use Rattle.weight.specs.Weight.{in_word, plus as plusOf, weigh as weigh_of, reaches_one, zero_weight};
 
-#[derive(Drop)]
+#[derive(Clone, Copy)]
 pub struct Weight {
     pub num: u64,
     pub den: u64,
 }
 
 // A clause's sum so far, or that it failed: an overflow of u64, or a zero denominator.
-#[derive(Drop)]
+#[derive(Clone, Copy)]
 pub enum Sum {
     At(u64, u64),
     Failed,
 }
 
-#[derive(Drop)]
+#[derive(Clone, Copy)]
 enum Word {
     Fits(u64),
     Over,

@@ -1,4 +1,6 @@
 // Signatures as they stand in a lent byte string: where a list of them stands, and the places that they speak for. Nothing is copied.
+#![tactic(auto)]
+
 ghost use Rattle.std.specs.Prelude.{◌≡◌, ◌+◌, ◌*◌, ◌≤◌, eqb, length, take, drop};
 ghost use Rattle.lists.specs.Lists.{both, either, any, same_numbers};
 ghost use Rattle.firsts.specs.Firsts.{has_first};
@@ -10,7 +12,7 @@ use cursor::{Num8, Num32};
 use verification::{Claim, Counted, Index, Ondex};
 
 // How many there are, the place of the first, and the place behind the last; or the refusal.
-#[derive(Drop)]
+#[derive(Clone, Copy)]
 pub enum Span {
     Of(usize, usize, usize),
     No(u8),

@@ -1,5 +1,7 @@
 // Bytes written over a lent buffer from a place on. Every function here takes any place: a writer gives the place behind what it
 // wrote; where that has no room it writes nothing and gives the place back.
+#![tactic(auto)]
+
 ghost use Rattle.std.specs.Prelude.{◌≡◌, [], ◌∷◌, ◌+◌, leb, length};
 ghost use Rattle.writer.specs.Writing.{be, put};
 
