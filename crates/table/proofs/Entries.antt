@@ -27,8 +27,8 @@ use Rattle.receive.specs.Received.{taken, unless_bad, body_taken, first_taken, r
 use Rattle.fold_record.specs.Folded.{fold_taken, body_folded}
 use Rattle.writer.specs.Writing.{over}
 use Rattle.snapshot.specs.Saved.{saved, encoded}
-use Rattle.log.specs.Log.{after, answers}
-use Rattle.log.proofs.Steps.{ShapedFirst, first-shaped}
+use Rattle.record_log.specs.Log.{after, answers}
+use Rattle.record_log.proofs.Steps.{ShapedFirst, first-shaped}
 use Rattle.found.specs.Kept.{Kept, none, one, alone, snapshot_first, state_in, kept_in}
 use Rattle.in_place.specs.Calls.{Left, untouched, after_saving, settled_in, on_state, offered_in, body_offered_in, folded_first, folded_in, body_folded_in, asked}
 use Rattle.table.proofs.Laws.{pick_in}

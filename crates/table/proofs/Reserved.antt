@@ -31,8 +31,8 @@ use Rattle.fold.specs.Fold.{folded}
 use Rattle.decoded.proofs.Gives.{Each}
 use Rattle.receive.specs.Received.{received}
 use Rattle.snapshot.specs.Saved.{saved}
-use Rattle.log.specs.Log.{records_of, answers}
-use Rattle.log.proofs.Steps.{records_shaped}
+use Rattle.record_log.specs.Log.{records_of, answers}
+use Rattle.record_log.proofs.Steps.{records_shaped}
 use Rattle.in_place.specs.Calls.{offered_in, body_offered_in, folded_in, body_folded_in, asked}
 use Rattle.table.specs.Table.{Never29}
 use Rattle.table.specs.Without29.{on_nothing_without29, offered_without29}

@@ -18,8 +18,8 @@ use Rattle.fold.specs.Fold.{folded}
 use Rattle.decoded.proofs.Gives.{Each}
 use Rattle.receive.specs.Received.{received}
 use Rattle.snapshot.specs.Saved.{saved}
-use Rattle.log.specs.Log.{records_of, answers}
-use Rattle.log.proofs.Steps.{records_shaped}
+use Rattle.record_log.specs.Log.{records_of, answers}
+use Rattle.record_log.proofs.Steps.{records_shaped}
 use Rattle.in_place.specs.Calls.{offered_in, body_offered_in, folded_in, body_folded_in, asked}
 use Rattle.table.specs.Table.{InTable, InTableOfSaving}
 use Rattle.table.proofs.Entries.{offered-in, folded-in, received-in, answers-in, asked_in, saved-in, offer-in, offer-body-in, fold-in, fold-body-in}

@@ -15,8 +15,8 @@ use Rattle.state.specs.declared.Holder.{Holder}
 use Rattle.ingest.specs.declared.Offered.{Offered}
 use Rattle.layout.specs.Records.{First, first_of, next_in}
 use Rattle.receive.specs.Received.{received}
-use Rattle.log.specs.Log.{given, records_of}
-use Rattle.log.proofs.Laws.{bounds, records_none, records_next, call_given}
+use Rattle.record_log.specs.Log.{given, records_of}
+use Rattle.record_log.proofs.Laws.{bounds, records_none, records_next, call_given}
 use Rattle.found.specs.Kept.{Kept, kept_in}
 use Rattle.in_place.specs.Calls.{Left, settled_in, untouched, on_state, offered_in}
 use Rattle.walk.specs.declared.Walked.{Walked}

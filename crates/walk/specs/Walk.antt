@@ -5,7 +5,7 @@ use Rattle.runs.specs.Runs.{end_of, kept_of}
 use Rattle.answer.specs.declared.Answer.{Answer}
 use Rattle.answer.specs.Answer.{passes}
 use Rattle.layout.specs.Records.{First}
-use Rattle.log.specs.Log.{given, records_of}
+use Rattle.record_log.specs.Log.{given, records_of}
 use Rattle.found.specs.Kept.{kept_in}
 use Rattle.in_place.specs.Calls.{Left, on_state}
 use Rattle.walk.specs.declared.Walked.{Walked}

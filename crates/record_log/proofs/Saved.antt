@@ -28,7 +28,7 @@ use Rattle.resume.proofs.Stays.{good-stays, real_stays, holding-shape}
 use Rattle.resume.proofs.Theorems.{Sound, sound_nothing, body_bytes_lem, reads-back}
 use Rattle.ingest.specs.Judgement.{turned_away}
 use Rattle.receive.specs.Received.{taken, unless_bad, received}
-use Rattle.log.specs.Log.{records_from, records_of, after, held, answers}
+use Rattle.record_log.specs.Log.{records_from, records_of, after, held, answers}
 
 -- ---- the records of a byte string are well shaped, with numbers that fit
 abbrev Good : First → Type 0

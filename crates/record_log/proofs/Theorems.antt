@@ -27,8 +27,8 @@ use Rattle.layout.specs.Records.{Content, First, first_of, mark_of, body_length}
 use Rattle.decoded.proofs.Bound.{first-bytes}
 use Rattle.receive.specs.Received.{taken, unless_bad, body_taken, received}
 use Rattle.receive.proofs.Laws.{stays_received}
-use Rattle.log.specs.Log.{records_of, after, answer_at, takes, held, kept, answers, fold_step, fold_all, RunsOn}
-use Rattle.log.proofs.Steps.{stays, fold_same, takes-zero, ShapedFirst, records_shaped, counts_on}
+use Rattle.record_log.specs.Log.{records_of, after, answer_at, takes, held, kept, answers, fold_step, fold_all, RunsOn}
+use Rattle.record_log.proofs.Steps.{stays, fold_same, takes-zero, ShapedFirst, records_shaped, counts_on}
 
 pub refusal_stays : (h : Holder) (s : List ℕ) → passes (received h s).offered.answer ≡ false → (received h s).offered.holder ≡ h
 refusal_stays = stays_received

@@ -28,7 +28,7 @@ use Rattle.layout.specs.Records.{Content, event, snapshot, refusal, content_of, 
 use Rattle.ingest.specs.Judgement.{turned_away}
 use Rattle.receive.specs.Received.{taken, unless_bad}
 use Rattle.receive.proofs.Laws.{stays_first}
-use Rattle.log.specs.Log.{records_from, given, after, answer_at, takes, fold_step, RunsOn}
+use Rattle.record_log.specs.Log.{records_from, given, after, answer_at, takes, fold_step, RunsOn}
 
 -- ---- a refusal leaves the holder as it came
 pub stays : (h : Holder) (f : First) → takes h f ≡ false → after h f ≡ h

@@ -11,7 +11,7 @@ use Rattle.lists.specs.Lists.{pick, both}
 use Rattle.state.specs.declared.Holder.{Holder}
 use Rattle.layout.specs.Records.{content_of, First, record_of, truncated, first_of, next_in, mark_of, body_length}
 use Rattle.receive.specs.Received.{first_taken}
-use Rattle.log.specs.Log.{records_from, records_of, given}
+use Rattle.record_log.specs.Log.{records_from, records_of, given}
 
 -- ---- where the next record starts: past a byte at least, and not past the end
 pub record Bounds (s : List ℕ) (f : First) : Type 0 where
