@@ -28,7 +28,7 @@ module _ (t : ℕ) where
 
 -- who owns a config knows that it has 8 places: from `good` for a parameter, from `ok` for a call's result
 pub places-8 : (c : Config) (vs : List Val) → Is the_row c vs → length c.traits ≡ 8
-places-8 c vs p = simp length-map at p.1.1.1.0.1.0.1
+places-8 c vs p = p.1.1.1.0.1.0.1
 
 made : {n m : ℕ} {a b : List ℕ} → n ≡ m → a ≡ b → ◌≡◌ {A = Config} (record { count = n; traits = a }) (record { count = m; traits = b })
 made e f = cc

@@ -104,7 +104,7 @@ pub fn copy32(s: &[u8], at: usize) -> [u8; 32]
         return raw;
     }
     let end = at + 32;
-    bytes::copy(&s[at..end], &mut raw);
+    raw.copy_from_slice(&s[at..end]);
     raw
 }
 
@@ -121,6 +121,6 @@ pub fn copy64(s: &[u8], at: usize) -> [u8; 64]
         return raw;
     }
     let end = at + 64;
-    bytes::copy(&s[at..end], &mut raw);
+    raw.copy_from_slice(&s[at..end]);
     raw
 }

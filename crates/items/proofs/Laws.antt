@@ -26,7 +26,7 @@ no_item = record { code = 0; raw = [] }
 
 -- who owns a list knows that it has 16 places: from `good` for a parameter, from `ok` for a call's result
 pub places-16 : (l : Items) (vs : List Val) → Is the_row l vs → length l.at ≡ 16
-places-16 l vs p = simp length-map at p.1.1.1.0.1.0.1
+places-16 l vs p = p.1.1.1.0.1.0.1
 
 pub listed-packed : (xs : List Item) → listed (packed xs) ≡ xs
 listed-packed xs = padded-used zero_item 16 xs

@@ -58,7 +58,7 @@ real_weight : (w : Weight) (vs : List Val) → Is weight.the_row w vs → Words 
 real_weight w vs p = (p.1.1.0.1, p.1.1.1.0.1)
 
 pub raw-32 : (x : Item) (vs : List Val) → Is item.the_row x vs → length x.raw ≡ 32
-raw-32 x vs p = simp length-map at p.1.1.1.0.1.0.1
+raw-32 x vs p = p.1.1.1.0.1.0.1
 
 raws_32 : (xs : List Item) (us : List Val) → shadow (each _ (item.the_field).row.own_val (map (item.the_field).into xs) us) → Each (λ x. length x.raw ≡ 32) xs
 raws_32 [] us s = tt
@@ -78,7 +78,7 @@ pub real_threshold : (t : Threshold) (vs : List Val) → Is threshold.the_row t 
 real_threshold t vs p =
     record {
       simple = p.1.1.1.0.1;
-      sizes = simp length-map at p.1.1.1.1.1.0.1.0.1;
+      sizes = p.1.1.1.1.1.0.1.0.1;
       weights = weights_16 t vs p;
       words = words-64 t.weights p.1.1.1.1.1.1.0.0 p.1.1.1.1.1.1.0.1.1;
     }

@@ -34,7 +34,7 @@ no_weight = record { num = 0; den = 0 }
 
 -- from `good` for a parameter, from `ok` for a call's result
 pub weights_16 : (t : Threshold) (vs : List Val) → Is the_row t vs → length t.weights ≡ 16
-weights_16 t vs p = simp length-map at p.1.1.1.1.1.1.0.1.0.1
+weights_16 t vs p = p.1.1.1.1.1.1.0.1.0.1
 
 -- ---- how many weights there are
 pub sum-next : (xs : List ℕ) (x i : ℕ) → drop i xs ≡ x ∷ drop (i + 1) xs → sum (drop i xs) ≡ x + sum (drop (i + 1) xs)

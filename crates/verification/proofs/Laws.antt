@@ -39,7 +39,7 @@ blank = record { code = 0; index = record { 0 = 0 }; dual = false; ondex = recor
 
 -- who owns a list knows that it has 48 places: from `good` for a parameter, from `ok` for a call's result
 pub places-48 : (l : Sigers) (vs : List Val) → Is the_row l vs → length l.at ≡ 48
-places-48 l vs p = simp length-map at p.1.1.1.0.1.0.1
+places-48 l vs p = p.1.1.1.0.1.0.1
 
 -- ---- tests
 both_left : (a b : Bool) → a ≡ false → both a b ≡ false

@@ -1,0 +1,11 @@
+use mathlib.Core.Path.{sym, ◌∙◌, ap}
+use Rattle.toad.specs.Toad.{taken}
+use Rattle.toad.proofs.Laws.{ample-fits, ample-taken, ample-refused}
+use borrow.Author.Rules.{rules}
+use Rattle.toad.proofs.ample.Goals as goal
+
+pub returns-then-witnesses-ge-TOO_MANY : goal.returns-then-witnesses-ge-TOO_MANY
+returns-then-witnesses-ge-TOO_MANY c = c.refuse.ensures ∙ sym (ample-refused _ c.if-witnesses-ge-TOO_MANY.true)
+
+pub overflow_cast-least : goal.overflow_cast-least
+overflow_cast-least c = rw c.least_ample-least.ensures (record { fits = ample-fits _ c.if-witnesses-ge-TOO_MANY.false })

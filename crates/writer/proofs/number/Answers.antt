@@ -1,0 +1,23 @@
+use mathlib.Core.Path.{◌≡◌, refl}
+use Prim.Native.Nat.{◌+◌, ◌≤◌}
+use native.Mathlib.Omega.{arith}
+use lib.ListN.{length}
+use Rattle.writer.specs.Writing.{be, over}
+use Rattle.writer.proofs.Laws.{is-room, is_none, no_room, whole, length-be, be-digits, digits-less, digits-end}
+use borrow.Author.Rules.{rules}
+use Rattle.writer.proofs.number.Goals as goal
+
+pub returns-then-not-room : goal.returns-then-not-room
+returns-then-not-room c = let a = c.args in
+    let h = is_none _ a.at a.width a.buf.now c.room.ensures c.if-not-room.true in
+    no_room (be a.width a.v) a.at a.buf.now (rw length-be h)
+
+pub loop-i-preserved : goal.loop-i-preserved
+loop-i-preserved c = let l = c.loop-i in
+    (search rules, search rules, search rules, digits-less be-digits _ _ _ l.i l.x (omega arith) (omega arith) l.invariant.3)
+
+pub returns : goal.returns
+returns c = let a = c.args in
+    let l = c.loop-i in
+    let w = digits-end be-digits a.at a.width a.v a.buf.now l.buf l.i l.x (omega arith) l.invariant.3 in
+    whole (be a.width a.v) a.at a.buf.now (rw length-be (omega arith)) w

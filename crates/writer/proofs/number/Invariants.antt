@@ -1,0 +1,13 @@
+use mathlib.Core.Path.{◌≡◌, refl}
+use Prim.Native.Nat.{◌+◌, ◌≤◌}
+use native.Mathlib.Omega.{arith}
+use lib.ListN.{length}
+use Rattle.writer.specs.Writing.{be, over}
+use Rattle.writer.proofs.Laws.{is-room, is_none, no_room, whole, length-be, be-digits, digits-less, digits-end}
+use Rattle.writer.proofs.number.Given as goal
+
+abbrev pub invariant-loop-i : goal.invariant-loop-i
+invariant-loop-i l = (l.i ≤ l.width) × (l.at + l.width ≤ length l.buf) × (length l.buf ≡ length l.initial.buf) × (over l.at (be l.width l.v) l.initial.buf ≡ over l.at (be l.i l.x) l.buf)
+
+abbrev pub decreases-loop-i : goal.decreases-loop-i
+decreases-loop-i l = l.i
