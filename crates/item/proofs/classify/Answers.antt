@@ -18,7 +18,7 @@ pub returns-in-69-to-73 : goal.returns-in-69-to-73
 returns-in-69-to-73 c = sym (class-digest _ (omega arith) (omega arith))
 
 pub returns-in_default : goal.returns-in_default
-returns-in_default c = sym (class_low _ c.in_default-1.rest.0.1 c.in_default-1.rest.1 (omega arith))
+returns-in_default c = sym (class_low _ (search rules) (search rules) (omega arith))
 
 pub returns-in_default-2 : goal.returns-in_default-2
 returns-in_default-2 c = sym (class-high _ (omega arith))

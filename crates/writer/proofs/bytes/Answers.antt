@@ -1,4 +1,5 @@
-use mathlib.Core.Path.{◌≡◌, refl}
+use mathlib.Core.Path.{◌≡◌, refl, ap}
+use mathlib.Core.Bool.{not}
 use Prim.Native.Nat.{◌+◌, ◌-◌, ◌≤◌}
 use native.Mathlib.Omega.{arith}
 use lib.ListN.{length, drop}
@@ -9,7 +10,7 @@ use Rattle.writer.proofs.bytes.Goals as goal
 pub returns-then-not-room : goal.returns-then-not-room
 returns-then-not-room c = let a = c.args in
     let r = c.room in
-    no_room a.src.now a.at a.buf.now (is_none _ a.at _ a.buf.now r.ensures c.if-not-room.true)
+    let facts = no_room a.src.now a.at a.buf.now (is_none _ a.at _ a.buf.now r.ensures (ap not c.if-not-room.true)) in record { value = facts.0; buf_after = facts.1 }
 
 pub loop-i-preserved : goal.loop-i-preserved
 loop-i-preserved c = let l = c.loop-i in
@@ -19,4 +20,4 @@ pub returns : goal.returns
 returns c = let a = c.args in
     let l = c.loop-i in
     let z : l.i ≡ length a.src.now = omega arith in
-    whole a.src.now a.at a.buf.now (omega arith) (rw z at (bytes-end a.src.now a.buf.now l.buf a.at l.i l.invariant.4 (omega arith)))
+    let facts = whole a.src.now a.at a.buf.now (omega arith) (rw z at (bytes-end a.src.now a.buf.now l.buf a.at l.i l.invariant.4 (omega arith))) in record { value = facts.0; buf_after = facts.1 }

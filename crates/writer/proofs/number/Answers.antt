@@ -1,4 +1,5 @@
-use mathlib.Core.Path.{◌≡◌, refl}
+use mathlib.Core.Bool.{not}
+use mathlib.Core.Path.{◌≡◌, refl, ap}
 use Prim.Native.Nat.{◌+◌, ◌≤◌}
 use native.Mathlib.Omega.{arith}
 use lib.ListN.{length}
@@ -9,8 +10,8 @@ use Rattle.writer.proofs.number.Goals as goal
 
 pub returns-then-not-room : goal.returns-then-not-room
 returns-then-not-room c = let a = c.args in
-    let h = is_none _ a.at a.width a.buf.now c.room.ensures c.if-not-room.true in
-    no_room (be a.width a.v) a.at a.buf.now (rw length-be h)
+    let h = is_none _ a.at a.width a.buf.now c.room.ensures (ap not c.if-not-room.true) in
+    let facts = no_room (be a.width a.v) a.at a.buf.now (rw length-be h) in record { value = facts.0; buf_after = facts.1 }
 
 pub loop-i-preserved : goal.loop-i-preserved
 loop-i-preserved c = let l = c.loop-i in
@@ -20,4 +21,4 @@ pub returns : goal.returns
 returns c = let a = c.args in
     let l = c.loop-i in
     let w = digits-end be-digits a.at a.width a.v a.buf.now l.buf l.i l.x (omega arith) l.invariant.3 in
-    whole (be a.width a.v) a.at a.buf.now (rw length-be (omega arith)) w
+    let facts = whole (be a.width a.v) a.at a.buf.now (rw length-be (omega arith)) w in record { value = facts.0; buf_after = facts.1 }

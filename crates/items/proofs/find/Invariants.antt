@@ -1,0 +1,16 @@
+use mathlib.Core.Path.{◌≡◌, refl, sym, ◌∙◌}
+use Prim.Native.Nat.{◌≤◌, ◌-◌}
+use native.Mathlib.Omega.{arith}
+use lib.ListN.{length, drop, take}
+use Rattle.lists.specs.Lists.{first_from}
+use Rattle.item.specs.Item.{same_item}
+use Rattle.lists.proofs.Walks.{head_at, used-end, array_end, first-here, first_next, first-end}
+use Rattle.items.specs.Items.{listed}
+use Rattle.items.proofs.Laws.{no_item, places-16}
+use Rattle.items.proofs.find.Given as goal
+
+abbrev pub invariant-loop-i : goal.invariant-loop-i
+invariant-loop-i l = (l.i ≤ 16) × ((length l.places ≡ 16) × (first_from (same_item l.x) 0 (take l.n l.places) ≡ first_from (same_item l.x) l.i (drop l.i (take l.n l.places))))
+
+abbrev pub decreases-loop-i : goal.decreases-loop-i
+decreases-loop-i l = 16 - l.i

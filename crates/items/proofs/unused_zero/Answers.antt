@@ -1,0 +1,22 @@
+use mathlib.Core.Path.{◌≡◌, refl, sym, ◌∙◌}
+use Prim.Native.Nat.{◌-◌}
+use native.Mathlib.Omega.{arith}
+use borrow.Author.Tests.{not-true, not-false}
+use lib.ListN.{length, drop}
+use Rattle.lists.specs.Lists.{all}
+use Rattle.lists.proofs.Walks.{head_of, all-stop, all-next, all_end}
+use Rattle.item.specs.Item.{is_zero}
+use Rattle.items.proofs.Laws.{no_item, places-16}
+use borrow.Author.Rules.{rules}
+use Rattle.items.proofs.unused_zero.Goals as goal
+
+pub returns-then-not-is_zero : goal.returns-then-not-is_zero
+returns-then-not-is_zero c = let a = c.args in
+    sym (c.loop-i.invariant.1 ∙ all-stop is_zero a.l.at _ c.loop-i.i (head_of no_item a.l.at c.loop-i.i (omega arith)) (sym c.is_zero.ensures ∙ c.if-not-is_zero.true))
+
+pub loop-i-preserved : goal.loop-i-preserved
+loop-i-preserved c = let a = c.args in
+    (c.loop-i.invariant.0, c.loop-i.invariant.1 ∙ all-next is_zero a.l.at _ c.loop-i.i (head_of no_item a.l.at c.loop-i.i (omega arith)) (sym c.is_zero.ensures ∙ c.if-not-is_zero.false))
+
+pub returns : goal.returns
+returns c = sym (c.loop-i.invariant.1 ∙ all_end is_zero c.args.l.at c.loop-i.i (omega arith))

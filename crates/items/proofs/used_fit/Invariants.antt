@@ -1,0 +1,17 @@
+use mathlib.Core.Path.{◌≡◌, refl, sym, ◌∙◌}
+use Prim.Native.Nat.{◌≤◌, ◌-◌}
+use native.Mathlib.Omega.{arith}
+use lib.ListN.{length, drop, take}
+use borrow.Author.Tests.{not-true, not-false}
+use Rattle.lists.specs.Lists.{all}
+use Rattle.item.specs.Item.{item_fits}
+use Rattle.lists.proofs.Walks.{head_at, used-end, array_end, all-stop, all-next, all_end}
+use Rattle.items.specs.Items.{listed}
+use Rattle.items.proofs.Laws.{no_item, places-16}
+use Rattle.items.proofs.used_fit.Given as goal
+
+abbrev pub invariant-loop-i : goal.invariant-loop-i
+invariant-loop-i l = (l.i ≤ 16) × ((length l.places ≡ 16) × (all (item_fits l.kind) (take l.n l.places) ≡ all (item_fits l.kind) (drop l.i (take l.n l.places))))
+
+abbrev pub decreases-loop-i : goal.decreases-loop-i
+decreases-loop-i l = 16 - l.i

@@ -1,0 +1,26 @@
+use mathlib.Core.Path.{◌≡◌, refl, sym, ◌∙◌, ap}
+use mathlib.Core.Bool.{true, false}
+use mathlib.Core.List.{List}
+use Prim.Native.Nat.{◌-◌}
+use native.Mathlib.Omega.{arith}
+use lib.ListN.{length, drop, take, get_or}
+use Rattle.lists.specs.Lists.{any, first_from}
+use Rattle.lists.proofs.Walks.{head_at, used-end, any_here, any_next, any-end}
+use Rattle.item.specs.declared.Item.{Item}
+use Rattle.item.specs.Item.{same_item}
+use Rattle.items.specs.Items.{listed, member}
+use Rattle.items.proofs.Laws.{no_item, places-16}
+use Rattle.member_set.proofs.Laws.{found_here, found-next, found_none}
+use Rattle.member_set.proofs.first_overlap.Given as goal
+
+abbrev pub invariant-loop-j : goal.invariant-loop-j
+invariant-loop-j l = any (same_item l.x) (take l.m l.those) ≡ any (same_item l.x) (drop l.j (take l.m l.those))
+
+abbrev pub decreases-loop-j : goal.decreases-loop-j
+decreases-loop-j l = l.m - l.j
+
+abbrev pub invariant-search : goal.invariant-search
+invariant-search l = (length l.these ≡ 16) × ((length l.those ≡ 16) × (first_from (member (take l.m l.those)) 0 (take l.n l.these) ≡ first_from (member (take l.m l.those)) l.i (drop l.i (take l.n l.these))))
+
+abbrev pub decreases-search : goal.decreases-search
+decreases-search l = l.n - l.i

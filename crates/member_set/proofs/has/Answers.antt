@@ -1,0 +1,15 @@
+use mathlib.Core.Path.{sym, ◌∙◌, ap}
+use Rattle.lists.specs.Lists.{is_at}
+use Rattle.lists.proofs.Facts.{first_any}
+use Rattle.item.specs.Item.{same_item}
+use Rattle.items.specs.Items.{listed}
+use borrow.Author.Rules.{rules}
+use Rattle.member_set.proofs.has.Goals as goal
+
+pub returns-in-At : goal.returns-in-At
+returns-in-At c = let a = c.args in
+    sym (ap is_at c.in-At.is) ∙ ap is_at c.find.ensures ∙ first_any (same_item a.x) 0 (listed a.l)
+
+pub returns-in-Nothing : goal.returns-in-Nothing
+returns-in-Nothing c = let a = c.args in
+    sym (ap is_at c.in-Nothing.is) ∙ ap is_at c.find.ensures ∙ first_any (same_item a.x) 0 (listed a.l)
