@@ -9,11 +9,11 @@ pub put_numeral-p-requires : goal.put_numeral-p-requires
 unfolding decimal_then decimal
 put_numeral-p-requires c = let a = c.args in
     let l0 = begin (decimal_then a.behind a.n) a.at a.buf.now c.requires in
-    (search rules, (search rules, fits (decimal a.n) _ l0))
+    record { lt_base = search rules; base_bound = search rules; room = fits (decimal a.n) _ l0 }
 
 pub returns : goal.returns
 unfolding decimal_then decimal
 returns c = let a = c.args in
     let l0 = begin (decimal_then a.behind a.n) a.at a.buf.now c.requires in
     let l1 = more (decimal a.n) (a.behind ∷ []) l0 c.put_numeral-p.ensures in
-    put_last _ l1 c.byte.ensures
+    put_last _ l1 (c.byte.ensures.value, c.byte.ensures.buf_after)

@@ -16,4 +16,4 @@ unfolding detail_then
 returns c = let a = c.args in
     let l0 = begin (detail_then a.behind a.x) a.at a.buf.now c.requires in
     let l1 = more (detail a.x) (a.behind ∷ []) l0 c.put_words-p.ensures in
-    put_last _ l1 c.byte.ensures
+    put_last _ l1 (c.byte.ensures.value, c.byte.ensures.buf_after)

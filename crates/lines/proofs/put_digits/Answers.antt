@@ -11,7 +11,7 @@ use borrow.Author.Rules.{rules}
 use Rattle.lines.proofs.put_digits.Goals as goal
 
 pub loop-i-init : goal.loop-i-init
-loop-i-init c = (search rules, rw length_digits at c.requires.1.1, search rules, search rules)
+loop-i-init c = (search rules, rw length_digits at c.requires.room, search rules, search rules)
 
 pub loop-i-preserved : goal.loop-i-preserved
 loop-i-preserved c = let a = c.args in

@@ -11,7 +11,7 @@ use Rattle.lines.proofs.put_numeral.Goals as goal
 pub put_digits-requires : goal.put_digits-requires
 put_digits-requires c = let a = c.args in
     let e : c.size-width.result ≡ length (numeral a.base a.most a.n) = c.size-width.ensures in
-    (search rules, (search rules, rw length_digits (omega arith)))
+    record { lt_base = search rules; base_bound = search rules; room = rw length_digits (omega arith) }
 
 pub returns : goal.returns
 returns c = let a = c.args in

@@ -1,4 +1,5 @@
-use mathlib.Core.Path.{◌≡◌, refl}
+use mathlib.Core.Bool.{not}
+use mathlib.Core.Path.{◌≡◌, refl, ap}
 use Prim.Native.Nat.{◌-◌}
 use native.Mathlib.Omega.{arith}
 use lib.ListN.{length, drop, take}
@@ -12,11 +13,11 @@ use Rattle.member_set.proofs.first_absent.Goals as goal
 
 pub returns-then-not-has : goal.returns-then-not-has
 returns-then-not-has c = let a = c.args in
-    found_here (absent (listed a.ys)) no_item a.xs.at (listed a.xs) c.used-n.result c.loop-i.i c.used-n.ensures.1 c.loop-i.invariant.1 (omega arith) (omega arith) ((rw c.has.ensures at c.if-not-has.true))
+    found_here (absent (listed a.ys)) no_item a.xs.at (listed a.xs) c.used-n.result c.loop-i.i c.used-n.ensures.1 c.loop-i.invariant.1 (omega arith) (omega arith) ((rw c.has.ensures at (ap not c.if-not-has.true)))
 
 pub loop-i-preserved : goal.loop-i-preserved
 loop-i-preserved c = let a = c.args in
-    (c.loop-i.invariant.0, found-next (absent (listed a.ys)) no_item a.xs.at (listed a.xs) c.used-n.result c.loop-i.i c.used-n.ensures.1 c.loop-i.invariant.1 (omega arith) (omega arith) ((rw c.has.ensures at c.if-not-has.false)))
+    (c.loop-i.invariant.0, found-next (absent (listed a.ys)) no_item a.xs.at (listed a.xs) c.used-n.result c.loop-i.i c.used-n.ensures.1 c.loop-i.invariant.1 (omega arith) (omega arith) ((rw c.has.ensures at (ap not c.if-not-has.false))))
 
 pub returns : goal.returns
 returns c = let a = c.args in

@@ -16,7 +16,7 @@ use borrow.Author.Rules.{rules}
 use Rattle.member_set.proofs.with_additions.Goals as goal
 
 pub loop-i-init : goal.loop-i-init
-loop-i-init c = (places-16 c.args.adds _ c.type_inv.1.0, joined-start (take c.used-n.result c.args.adds.at) c.args.first c.requires (places-16 c.args.first _ c.type_inv.0))
+loop-i-init c = (places-16 c.args.adds _ c.well_formed.1.0, joined-start (take c.used-n.result c.args.adds.at) c.args.first c.requires (places-16 c.args.first _ c.well_formed.0))
 
 pub loop-i-preserved : goal.loop-i-preserved
 loop-i-preserved c = let a = c.args in
@@ -24,7 +24,7 @@ loop-i-preserved c = let a = c.args in
     let n = c.used-n.result in
     let x = get_or a.adds.at i no_item in
     let t = ap (λ (ys : List Item). either (member (listed a.first) x) (member ys x)) (take-take i n a.adds.at (omega arith)) in
-    (c.loop-i.invariant.0, rw c.push_unless-l.ensures (joined-next (listed a.first) (take n a.adds.at) c.loop-i.l i x c.is_Known.result (head_at no_item a.adds.at n i (omega arith) (omega arith)) (last_at no_item a.adds.at n i (omega arith) (omega arith)) (c.is_Known.ensures ∙ sym t) c.loop-i.invariant.1))
+    (c.loop-i.invariant.0, rw c.push_unless-l.ensures (joined-next (listed a.first) (take n a.adds.at) c.loop-i.l i x c.is_known-known.result (head_at no_item a.adds.at n i (omega arith) (omega arith)) (last_at no_item a.adds.at n i (omega arith) (omega arith)) (c.is_known-known.ensures ∙ sym t) c.loop-i.invariant.1))
 
 pub returns : goal.returns
 returns c = let a = c.args in

@@ -11,13 +11,13 @@ use Rattle.threshold.proofs.sizes_zero.Goals as goal
 
 pub returns-then-sizes-i-ne0 : goal.returns-then-sizes-i-ne0
 returns-then-sizes-i-ne0 c = let a = c.args in
-    let l : length a.t1 ≡ 16 = c.loop-i.invariant.0 in
-    sym (all-stop (eqb 0) a.t1 _ c.loop-i.i (head_of 0 a.t1 c.loop-i.i (omega arith)) (ne_eqb 0 _ (λ e. c.if-sizes-i-ne0.true (sym e)))) ∙ c.loop-i.invariant.1
+    let l : length a.sizes ≡ 16 = c.loop-i.invariant.0 in
+    sym (all-stop (eqb 0) a.sizes _ c.loop-i.i (head_of 0 a.sizes c.loop-i.i (omega arith)) (ne_eqb 0 _ (λ e. c.if-sizes-i-ne0.true (sym e)))) ∙ c.loop-i.invariant.1
 
 pub loop-i-preserved : goal.loop-i-preserved
 loop-i-preserved c = let a = c.args in
-    let l : length a.t1 ≡ 16 = c.loop-i.invariant.0 in
-    (l, sym (all-next (eqb 0) a.t1 _ c.loop-i.i (head_of 0 a.t1 c.loop-i.i (omega arith)) (eq-eqb 0 _ (sym c.if-sizes-i-ne0.false))) ∙ c.loop-i.invariant.1)
+    let l : length a.sizes ≡ 16 = c.loop-i.invariant.0 in
+    (l, sym (all-next (eqb 0) a.sizes _ c.loop-i.i (head_of 0 a.sizes c.loop-i.i (omega arith)) (eq-eqb 0 _ (sym c.if-sizes-i-ne0.false))) ∙ c.loop-i.invariant.1)
 
 pub returns : goal.returns
-returns c = sym (all_end (eqb 0) c.args.from c.loop-i.i (omega arith)) ∙ c.loop-i.invariant.1
+returns c = sym (all_end (eqb 0) c.args.sizes c.loop-i.i (omega arith)) ∙ c.loop-i.invariant.1

@@ -10,17 +10,17 @@ use borrow.Author.Rules.{rules}
 use Rattle.threshold.proofs.some_empty.Goals as goal
 
 pub returns-then-n-i : goal.returns-then-n-i
-returns-then-n-i c = sym (any-end (eqb 0) (take c.args.n c.args.n) c.loop-i.i (used-end c.args.n c.args.n c.loop-i.i c.if-n-i.true)) ∙ c.loop-i.invariant.1
+returns-then-n-i c = sym (any-end (eqb 0) (take c.args.n c.args.sizes) c.loop-i.i (used-end c.args.sizes c.args.n c.loop-i.i c.if-n-i.true)) ∙ c.loop-i.invariant.1
 
 pub returns-then-sizes-i-eq0 : goal.returns-then-sizes-i-eq0
 returns-then-sizes-i-eq0 c = let a = c.args in
-    let l : length a.t1 ≡ 16 = c.loop-i.invariant.0 in
-    sym (any_here (eqb 0) (take a.n a.t1) _ c.loop-i.i (head_at 0 a.t1 a.n c.loop-i.i c.if-n-i.false (omega arith)) (eq-eqb 0 _ (sym c.if-sizes-i-eq0.true))) ∙ c.loop-i.invariant.1
+    let l : length a.sizes ≡ 16 = c.loop-i.invariant.0 in
+    sym (any_here (eqb 0) (take a.n a.sizes) _ c.loop-i.i (head_at 0 a.sizes a.n c.loop-i.i c.if-n-i.false (omega arith)) (eq-eqb 0 _ (sym c.if-sizes-i-eq0.true))) ∙ c.loop-i.invariant.1
 
 pub loop-i-preserved : goal.loop-i-preserved
 loop-i-preserved c = let a = c.args in
-    let l : length a.t1 ≡ 16 = c.loop-i.invariant.0 in
-    (l, sym (any_next (eqb 0) (take a.n a.t1) _ c.loop-i.i (head_at 0 a.t1 a.n c.loop-i.i c.if-n-i.false (omega arith)) (ne_eqb 0 _ (λ e. c.if-sizes-i-eq0.false (sym e)))) ∙ c.loop-i.invariant.1)
+    let l : length a.sizes ≡ 16 = c.loop-i.invariant.0 in
+    (l, sym (any_next (eqb 0) (take a.n a.sizes) _ c.loop-i.i (head_at 0 a.sizes a.n c.loop-i.i c.if-n-i.false (omega arith)) (ne_eqb 0 _ (λ e. c.if-sizes-i-eq0.false (sym e)))) ∙ c.loop-i.invariant.1)
 
 pub returns : goal.returns
-returns c = sym (any-end (eqb 0) (take c.args.n c.args.n) c.loop-i.i (array_end c.args.n c.args.n c.loop-i.i (omega arith))) ∙ c.loop-i.invariant.1
+returns c = sym (any-end (eqb 0) (take c.args.n c.args.sizes) c.loop-i.i (array_end c.args.sizes c.args.n c.loop-i.i (omega arith))) ∙ c.loop-i.invariant.1

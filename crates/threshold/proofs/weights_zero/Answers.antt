@@ -12,13 +12,13 @@ use Rattle.threshold.proofs.weights_zero.Goals as goal
 
 pub returns-then-not-is_zero : goal.returns-then-not-is_zero
 returns-then-not-is_zero c = let a = c.args in
-    let l : length a.t1 ≡ 16 = c.loop-i.invariant.0 in
-    sym (all-stop zero_weight a.t1 _ c.loop-i.i (head_of no_weight a.t1 c.loop-i.i (omega arith)) (sym c.is_zero.ensures ∙ c.if-not-is_zero.true)) ∙ c.loop-i.invariant.1
+    let l : length a.weights ≡ 16 = c.loop-i.invariant.0 in
+    sym (all-stop zero_weight a.weights _ c.loop-i.i (head_of no_weight a.weights c.loop-i.i (omega arith)) (sym c.is_zero.ensures ∙ c.if-not-is_zero.true)) ∙ c.loop-i.invariant.1
 
 pub loop-i-preserved : goal.loop-i-preserved
 loop-i-preserved c = let a = c.args in
-    let l : length a.t1 ≡ 16 = c.loop-i.invariant.0 in
-    (l, sym (all-next zero_weight a.t1 _ c.loop-i.i (head_of no_weight a.t1 c.loop-i.i (omega arith)) (sym c.is_zero.ensures ∙ c.if-not-is_zero.false)) ∙ c.loop-i.invariant.1)
+    let l : length a.weights ≡ 16 = c.loop-i.invariant.0 in
+    (l, sym (all-next zero_weight a.weights _ c.loop-i.i (head_of no_weight a.weights c.loop-i.i (omega arith)) (sym c.is_zero.ensures ∙ c.if-not-is_zero.false)) ∙ c.loop-i.invariant.1)
 
 pub returns : goal.returns
-returns c = sym (all_end zero_weight c.args.from c.loop-i.i (omega arith)) ∙ c.loop-i.invariant.1
+returns c = sym (all_end zero_weight c.args.weights c.loop-i.i (omega arith)) ∙ c.loop-i.invariant.1
