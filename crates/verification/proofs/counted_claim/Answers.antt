@@ -8,7 +8,7 @@ use Rattle.verification.proofs.counted_claim.Goals as goal
 
 pub returns-then-not-s : goal.returns-then-not-s
 returns-then-not-s c = let a = c.args in
-    counted-off a.keys a.next a.c (claimed a.s) (c.if-not-s.true)
+    counted-off a.keys a.next a.c (claimed a.s) (not-true a.s.verified c.if-not-s.true)
 
 pub returns-in_default : goal.returns-in_default
 returns-in_default c = let a = c.args in
@@ -21,5 +21,5 @@ overflow_cast-place c = let a = c.args in
 
 pub returns : goal.returns
 returns c = let a = c.args in
-    counted-in a.keys a.next a.c (claimed a.s) c.in-At.place _ _ (c.if-not-s.false)
+    counted-in a.keys a.next a.c (claimed a.s) c.in-At.place _ _ (not-false a.s.verified c.if-not-s.false)
     (sym c.key_place.ensures ∙ c.in-At.is) c.with_place-verified.ensures c.exposed_with-exposed.ensures

@@ -8,7 +8,7 @@ use Rattle.verification.proofs.exposed_with.Goals as goal
 
 pub returns-then-not-s : goal.returns-then-not-s
 returns-then-not-s c = let a = c.args in
-    exposed-off a.next a.set (claimed a.s) (c.if-not-s.true)
+    exposed-off a.next a.set (claimed a.s) (not-true a.s.dual c.if-not-s.true)
 
 pub returns-in_default : goal.returns-in_default
 returns-in_default c = let a = c.args in
@@ -22,7 +22,7 @@ overflow_cast-place c = let a = c.args in
 pub returns-then-s : goal.returns-then-s
 returns-then-s c = let a = c.args in
     c.with_place.ensures
-    ∙ exposed-in a.next a.set (claimed a.s) c.in-At.place (c.if-not-s.false)
+    ∙ exposed-in a.next a.set (claimed a.s) c.in-At.place (not-false a.s.dual c.if-not-s.false)
     (sym c.commitment_place.ensures ∙ c.in-At.is) c.if-s.true
 
 pub returns-else-s : goal.returns-else-s
