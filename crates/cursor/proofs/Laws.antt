@@ -120,15 +120,8 @@ module _ (n : ℕ) (s : List ℕ) (at : ℕ) where
   raw-got h = simp (le-leb _ _ h)
 
   -- what a copy of the part at..end into n zeros holds
-  pub raw-copied : (e : ℕ) (z r : List ℕ) → at + n ≤ length s → e ≡ at + n → length z ≡ n
-      → r ≡ take (length (take (e - at) (drop at s))) (take (e - at) (drop at s)) ++ drop (length (take (e - at) (drop at s))) z
-      → r ≡ raw_of n s at
-  raw-copied e z r h p q i =
-      let k : length (take n (drop at s)) ≡ n = simp (length-take, length-drop) (omega arith) in
-      let y : drop n z ≡ [] = drop_of_length-le z (le_of_eq q) in
-      let l : n ≤ n = le_refl n in
-      rw (raw-got h)
-      (i ∙ rw (p, add-sub_cancel_left, k, take-take n n (drop at s), y, append-nil))
+  pub raw-copied : (e : ℕ) (r : List ℕ) → at + n ≤ length s → e ≡ at + n → r ≡ take (e - at) (drop at s) → r ≡ raw_of n s at
+  raw-copied e r h p i = rw (raw-got h) (i ∙ rw (p, add-sub_cancel_left))
 
 -- Runs of fields by one rule, as a loop walks them: i of n are read, and the next stands at p.
 module _ {A : Type 0} (f : ℕ → Parse A) (n : ℕ) (i : ℕ) (p : ℕ) (x : Parse (Unit {0})) where

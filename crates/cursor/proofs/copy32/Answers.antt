@@ -1,0 +1,15 @@
+use mathlib.Core.Path.{refl, sym}
+use native.Mathlib.Omega.{arith}
+use Rattle.cursor.proofs.Laws.{raw-short, raw-copied}
+use borrow.Author.Rules.{rules}
+use Rattle.cursor.proofs.copy32.Goals as goal
+
+pub returns-then-len-at : goal.returns-then-len-at
+returns-then-len-at c = sym (raw-short _ _ _ (omega arith))
+
+pub returns-then-len-at-lt32 : goal.returns-then-len-at-lt32
+returns-then-len-at-lt32 c = sym (raw-short _ _ _ (omega arith))
+
+pub returns : goal.returns
+returns c = let a = c.args in
+    raw-copied 32 a.s.now a.at _ _ (omega arith) refl c.copy_from_slice.ensures.after

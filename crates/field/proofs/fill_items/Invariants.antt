@@ -1,0 +1,16 @@
+use native.Mathlib.Omega.{arith}
+use Prim.Native.Nat.{◌+◌, ◌*◌, ◌-◌, ◌≤◌}
+use Rattle.lists.specs.Lists.{padded}
+use Rattle.item.specs.Item.{zero_item}
+use Rattle.cursor.specs.Spans.{list_of}
+use Rattle.cursor.proofs.Laws.{list-more}
+use Rattle.field.specs.Field.{item_of}
+use Rattle.field.proofs.Laws.{items_none, items_is}
+use mathlib.Core.Path.{◌≡◌}
+use Rattle.field.proofs.fill_items.Given as goal
+
+abbrev pub invariant-loop-i : goal.invariant-loop-i
+invariant-loop-i l = (l.i ≤ l.n) × (l.p ≡ l.first + l.i * 33) × (l.places ≡ padded 16 zero_item (list_of (item_of l.s) 33 l.i l.first))
+
+abbrev pub decreases-loop-i : goal.decreases-loop-i
+decreases-loop-i l = l.n - l.i

@@ -1,0 +1,15 @@
+use mathlib.Core.Path.{◌≡◌, refl}
+use Prim.Native.Nat.{◌+◌, ◌*◌, ◌≤◌, ◌-◌}
+use native.Mathlib.Omega.{arith}
+use Rattle.lists.specs.Lists.{padded}
+use Rattle.cursor.specs.Spans.{list_of}
+use Rattle.cursor.proofs.Laws.{list-more}
+use Rattle.threshold_field.specs.ThresholdField.{weight_of, no_weight}
+use Rattle.threshold_field.proofs.Laws.{fill_none, fill-over, fill-short, fill-all}
+use Rattle.threshold_field.proofs.copy_weights.Given as goal
+
+abbrev pub invariant-loop-i : goal.invariant-loop-i
+invariant-loop-i l = (l.i ≤ l.n) × (l.weights ≡ padded 16 no_weight (list_of (weight_of l.s) 16 l.i l.first))
+
+abbrev pub decreases-loop-i : goal.decreases-loop-i
+decreases-loop-i l = l.n - l.i

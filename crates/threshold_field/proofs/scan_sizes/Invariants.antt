@@ -1,0 +1,14 @@
+use mathlib.Core.Path.{◌≡◌, sym, ap, ◌∙◌}
+use Prim.Native.Nat.{◌≤◌, ◌-◌}
+use native.Mathlib.Nat.{sub-zero}
+use native.Mathlib.Omega.{arith}
+use Rattle.cursor.specs.Cursor.{is8}
+use Rattle.threshold_field.specs.ThresholdField.{total_at}
+use Rattle.threshold_field.proofs.Laws.{total-more, total-many, total-stop, total-end}
+use Rattle.threshold_field.proofs.scan_sizes.Given as goal
+
+abbrev pub invariant-loop-i : goal.invariant-loop-i
+invariant-loop-i l = (l.total ≤ 16) × (l.i ≤ l.n) × (total_at l.s l.n 0 l.first ≡ total_at l.s (l.n - l.i) l.total l.p)
+
+abbrev pub decreases-loop-i : goal.decreases-loop-i
+decreases-loop-i l = l.n - l.i

@@ -1,0 +1,16 @@
+use mathlib.Core.Path.{◌≡◌, refl, sym, ◌∙◌}
+use Prim.Native.Nat.{◌≤◌, ◌-◌}
+use native.Mathlib.Omega.{arith}
+use lib.ListN.{take, drop}
+use Rattle.lists.specs.Lists.{both, same_numbers}
+use Rattle.wire.proofs.Laws.{left, run_more, run-over}
+use borrow.Author.Rules.{rules}
+use Rattle.wire.proofs.same_raw.Goals as goal
+
+pub loop-i-preserved : goal.loop-i-preserved
+loop-i-preserved c = let a = c.args in
+    (search rules, c.loop-i.invariant.1 ∙ run_more 64 a.s.now a.p a.q c.loop-i.i (omega arith) (omega arith) (omega arith) c.loop-i.same)
+
+pub returns : goal.returns
+returns c = let a = c.args in
+    sym (c.loop-i.invariant.1 ∙ run-over 64 a.s.now a.p a.q c.loop-i.i (omega arith) (omega arith) (omega arith) c.loop-i.same)

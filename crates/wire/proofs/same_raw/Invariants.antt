@@ -1,0 +1,13 @@
+use mathlib.Core.Path.{◌≡◌, refl, sym, ◌∙◌}
+use Prim.Native.Nat.{◌≤◌, ◌-◌}
+use native.Mathlib.Omega.{arith}
+use lib.ListN.{take, drop}
+use Rattle.lists.specs.Lists.{both, same_numbers}
+use Rattle.wire.proofs.Laws.{left, run_more, run-over}
+use Rattle.wire.proofs.same_raw.Given as goal
+
+abbrev pub invariant-loop-i : goal.invariant-loop-i
+invariant-loop-i l = (l.i ≤ 64) × (same_numbers (take 64 (drop l.p l.s)) (take 64 (drop l.q l.s)) ≡ both l.same (left 64 l.s l.p l.q l.i))
+
+abbrev pub decreases-loop-i : goal.decreases-loop-i
+decreases-loop-i l = 64 - l.i
