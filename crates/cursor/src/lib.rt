@@ -48,7 +48,7 @@ fn wide(x: u8) -> u64
 fn big_endian(s: &[u8], at: usize, n: usize) -> Num64
     requires { n ≤ 8 }
     ensures result_value { is64 result ≡ num_at n s.now at }
-    ensures Below64 { Below64 result n }
+    ensures below64 { Below64 result n }
 {
     let len = s.len();
     if len < at {
