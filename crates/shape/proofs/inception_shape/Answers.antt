@@ -1,0 +1,16 @@
+use mathlib.Core.Path.{sym, ◌∙◌}
+use Rattle.answer.proofs.Laws.{fault_here, fault_past, fault_last}
+use borrow.Author.Rules.{rules}
+use Rattle.shape.proofs.inception_shape.Goals as goal
+
+pub returns-then-n-ne0 : goal.returns-then-n-ne0
+returns-then-n-ne0 c = fault_here _ _ _ c.first_head-n.ensures c.if-n-ne0.true
+
+pub returns-then-m-ne0 : goal.returns-then-m-ne0
+returns-then-m-ne0 c = fault_here _ _ _ c.body_shape-m.ensures c.if-m-ne0.true ∙ sym (fault_past _ _ _ c.first_head-n.ensures c.if-n-ne0.false)
+
+pub returns-then-k-ne0 : goal.returns-then-k-ne0
+returns-then-k-ne0 c = fault_here _ _ _ c.shape-k.ensures c.if-k-ne0.true ∙ sym (fault_past _ _ _ c.body_shape-m.ensures c.if-m-ne0.false) ∙ sym (fault_past _ _ _ c.first_head-n.ensures c.if-n-ne0.false)
+
+pub returns : goal.returns
+returns c = fault_last _ _ c.signed_shape.ensures ∙ sym (fault_past _ _ _ c.shape-k.ensures c.if-k-ne0.false) ∙ sym (fault_past _ _ _ c.body_shape-m.ensures c.if-m-ne0.false) ∙ sym (fault_past _ _ _ c.first_head-n.ensures c.if-n-ne0.false)
