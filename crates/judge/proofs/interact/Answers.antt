@@ -22,7 +22,7 @@ returns-then-y-ne0 c = let a = c.args in
 pub returns-then-z-ne0 : goal.returns-then-z-ne0
 returns-then-z-ne0 c = let a = c.args in
     let whole = interaction-at a.st.now a.sm a.s.now a.m _ (list_at a.st.now a.sm.body.additions).count _ c.count-keys.ensures refl c.gather-v.ensures in
-    here _ _ _ c.quorum-z.ensures c.if-z-ne0.true ∙ sym (past _ _ _ c.chain-y.ensures c.if-y-ne0.false) ∙ sym (past _ _ _ (c.only_establishment-x.ensures ∙ ap may_interact c.copy_config-config.ensures) c.if-y-ne0.false) ∙ whole
+    here _ _ _ c.quorum-z.ensures c.if-z-ne0.true ∙ sym (past _ _ _ c.chain-y.ensures c.if-y-ne0.false) ∙ sym (past _ _ _ (c.only_establishment-x.ensures ∙ ap may_interact c.copy_config-config.ensures) c.if-x-ne0.false) ∙ whole
 
 pub returns : goal.returns
 returns c = let a = c.args in

@@ -12,7 +12,7 @@ use Rattle.judge.proofs.rotate.Goals as goal
 pub returns-then-x-ne0 : goal.returns-then-x-ne0
 returns-then-x-ne0 c = let a = c.args in
     let new = new_witnesses (state_of a.st.now a.sm) (body_of a.s.now a.m.body) in
-    let whole = rotation-at a.st.now a.sm a.s.now a.m _ _ _ c.count-next.ensures c.count-next.ensures c.gather-v.ensures in
+    let whole = rotation-at a.st.now a.sm a.s.now a.m _ _ _ c.count-keys.ensures c.count-next.ensures c.gather-v.ensures in
     c.unchanged.ensures ∙ change_stops _ _ new (here _ _ _ c.rotation_keys-x.ensures c.if-x-ne0.true ∙ whole) c.if-x-ne0.true
 
 pub returns : goal.returns
