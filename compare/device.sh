@@ -1,7 +1,8 @@
 # The device's archive beside the given Rust: sourced by `run`. The Rust's part writes calls with what it expects
-# (device/script.rs), the C part makes them (device/replay.c). examples/kit.sh, which builds and runs C over the x86-64
-# archive on any machine, has names of its own, so it is sourced in a shell of its own.
+# (device/script.rs), the C part makes them (device/replay.c). examples/kit.sh, which builds C over the archive, has names of
+# its own, so it is sourced in a shell of its own.
 faults_in_calls=21
+replay=$top/target/device/replay
 
 with_kit() { (cd "$top" && . examples/kit.sh && "$@"); }
 
@@ -17,7 +18,7 @@ has_cc() {
 need_replay() {
     need
     with_kit library || die "the archive is not built"
-    rm -f "$top"/target/device/replay*
+    rm -f "$replay"*
     with_kit build_c compare/device/replay.c target/device/replay -O2 || die "replay.c does not compile"
     with_kit build_c compare/device/replay.c target/device/replay-faulty -O2 -DFAULTY || die "faulty.h does not compile"
 }
@@ -37,7 +38,7 @@ device_calls() {
 
 # device [STREAMS [SEED]]: first that a difference would be noticed, then that there is none
 device() {
-    device_faults && device_calls "${1:-100}" "${2:-0}" | with_kit run_c target/device/replay
+    device_faults && device_calls "${1:-100}" "${2:-0}" | "$replay"
 }
 
 # Shows that a difference is noticed, on a stream of each style: one expected bit turned, and one fault in the calls.
@@ -47,15 +48,15 @@ device_faults() {
     for k in $(seq 0 9); do seeded "$dir" "$k" 60; done
     for k in $(seq 1 100); do
         "$bin/script" spoiled --spoil "$k" <"$dir/seed-$((k % 10)).in" >"$dir/script" || die "no script"
-        notice "bit $k" target/device/replay
+        notice "bit $k" "$replay"
     done
     for k in $(seq 0 9); do "$bin/script" "seed $k" <"$dir/seed-$k.in" || die "no script"; done >"$dir/script"
-    with_kit run_c target/device/replay-faulty <"$dir/script" >"$dir/out" || {
+    "$replay-faulty" <"$dir/script" >"$dir/out" || {
         cat "$dir/out"
         die "there is a difference without a fault"
     }
     for k in $(seq "$faults_in_calls"); do
-        FAULT=$k notice "fault $k" target/device/replay-faulty
+        FAULT=$k notice "fault $k" "$replay-faulty"
     done
     [ -z "$missed" ] || die "not noticed:$missed"
     echo "$noticed faults noticed: 100 expected bits turned, $faults_in_calls faults in the calls"
@@ -63,6 +64,6 @@ device_faults() {
 
 # notice NAME PROGRAM: replay ends with 1 at a difference, and with 2 if it cannot read the script
 notice() {
-    with_kit run_c "$2" <"$dir/script" >"$dir/out"
+    "$2" <"$dir/script" >"$dir/out"
     if [ $? = 1 ]; then noticed=$((noticed + 1)); else missed="$missed $1"; fi
 }

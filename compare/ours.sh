@@ -1,16 +1,11 @@
 # Our programs beside the oracle: sourced by `run`.
 
-# The command that runs a proved program as rt does: under the kit's loader and C library, and under
-# its emulator where the machine is no x86-64.
-command_of() {
-    local kit tools emulator
-    . "$top/tools/kit.sh"
-    echo "$emulator $tools/lib/ld-linux-x86-64.so.2 --library-path $tools/lib $top/target/bin/$1"
-}
+# Where rt leaves a proved program.
+command_of() { (cd "$top" && . tools/kit.sh && echo "$top/$(program "$1")"); }
 
 # Proves and builds our programs, if that is still to do.
 prove_ours() {
-    (cd "$top" && . tools/kit.sh && rt check beside ${keyreport:+keyreport}) >"$work/prove.log" 2>&1 || {
+    (cd "$top" && . tools/kit.sh && build_program beside && { [ -z "$keyreport" ] || build_program keyreport; }) >"$work/prove.log" 2>&1 || {
         tail -n 20 "$work/prove.log" >&2
         die "our programs are not proved"
     }

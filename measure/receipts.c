@@ -22,19 +22,14 @@ struct answer {
   uint8_t number;
   uint64_t a_high, a_low, b_high, b_low;
 };
-struct slice {
-  const struct siger *at;
-  uint64_t count;
-};
-void lent_receipted_by(struct answer *out, uint32_t toad, uint64_t witnesses, const struct slice *receipts);
+void lent_receipted_by(struct answer *out, uint32_t toad, uint64_t witnesses, const struct siger *receipts, uint64_t count);
 
 static struct siger list[48];
 static uint32_t toad;
 static struct answer got;
 
 static uint8_t call(void) {
-  struct slice lent = {list, 48};
-  lent_receipted_by(&got, toad, 16, &lent);
+  lent_receipted_by(&got, toad, 16, list, 48);
   return got.number;
 }
 

@@ -1,13 +1,17 @@
-# The kit's loader and emulator, sourced: what is built runs as rt runs it. Programs are for x86-64; on another processor the kit's
-# emulator runs them, from the same folder.
-kit=${RATTLE_HOME:-$(cd "$(dirname "$(readlink -f "$(command -v rt)")")/.." && pwd -P)}
-tools=$kit/on/$(uname -m)/toolchain
-emulator=$tools/bin/qemu-x86_64
-[ -x "$emulator" ] || emulator=
+# Where the kit lies and where rt leaves what it builds: sourced at the top of the checkout. Today's kit is for x86-64; the programs that
+# it links run under the machine's own loader and C library.
+kit=$(dirname "$(dirname "$(readlink -f "$(command -v rt)")")")
+tools=$kit/toolchain
 
-# rt proves level by level and waits for the slowest crate of each, so more jobs than cores keep the cores busy: as many as have
-# 1.5 GB each, 8 at most.
-export RT_JOBS="${RT_JOBS:-$(awk '/^MemAvailable:/ { n = int($2 / 1500000) } END { print (n < 1) ? 1 : (n < 8) ? n : 8 }' /proc/meminfo)}"
+# program NAME: the program of a crate, as `rt run` and `rt ci` leave it
+program() { echo "crates/$1/out/$1"; }
 
-# run_built PROGRAM [WORD..]
-run_built() { ${emulator:+"$emulator"} "$tools/lib/ld-linux-x86-64.so.2" --library-path "$tools/lib" "$@"; }
+# fresh FILE: it is there, and nothing of the crates but what rt makes is newer
+fresh() { [ -e "$1" ] && [ -z "$(find crates crates.txt -regex 'crates/[^/]*/out' -prune -o -type f -newer "$1" -print -quit)" ]; }
+
+# build_program NAME: proves and builds the program where that is to do. rt has no word for building alone, so it runs it too, on nothing.
+# What rt says goes to standard output.
+build_program() {
+    fresh "$(program "$1")" && return 0
+    (cd "crates/$1" && rt run 2>&1 >/dev/null </dev/null) && touch "$(program "$1")"
+}

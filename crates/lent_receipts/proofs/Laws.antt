@@ -1,5 +1,5 @@
 -- The counting step over a list: after i elements the tally is that of the first i, so what is concluded after all is the whole answer. Assumes nothing.
---     fits-, step-, conclude-   the ways through the by-value functions
+--     step-, conclude-          the ways through the by-value functions
 --     tallyAt, tally-none       the tally of the first i elements, and of none
 --     Unlike, unlike-           none before position j is a copy of the element at i: one step of the search
 --     copy_step, first_step     the step takes the tally of the first i to that of one more, for a copy and for a first one
@@ -9,7 +9,7 @@ use mathlib.Core.Path.{◌≡◌, refl, sym, ap, subst, ◌∙◌}
 use mathlib.Core.Bool.{Bool, true, false}
 use mathlib.Core.List.{List, [], ◌∷◌, ◌++◌}
 use Prim.Native.Nat.{ℕ, ◌+◌, ◌<◌, ◌≤◌}
-use native.Mathlib.Nat.{le_refl, le_antisymm}
+use native.Mathlib.Nat.{le_antisymm}
 use native.Mathlib.Numerals.{add-one}
 use native.Mathlib.Omega.{arith}
 use lib.ListN.{length, length-take, take, get_or}
@@ -36,12 +36,6 @@ use Rattle.lent_receipts.specs.Receipted.{receipted_from, step_of, none_yet, con
 tally : {n m : ℕ} {c d : Counted} {a b : Bool} → n ≡ m → c ≡ d → a ≡ b
     → ◌≡◌ {A = Tally} (record { firsts = n; counted = c; fits = a }) (record { firsts = m; counted = d; fits = b })
 tally e f g = cc
-
-pub fits_off : (a b : Bool) → a ≡ false → false ≡ both a b
-fits_off a b e = rw e
-
-pub fits_on : (a b : Bool) → a ≡ true → b ≡ both a b
-fits_on a b e = rw e
 
 module _ (witnesses : ℕ) (t : Tally) (s : Siger) (i j : ℕ) {f : Bool} (fit : f ≡ both t.fits (ondex_fits s)) where
   pub step-copy : j < i → record { firsts = t.firsts; counted = t.counted; fits = f } ≡ step_of witnesses t s i j
@@ -83,29 +77,35 @@ module _ (witnesses : ℕ) (xs : List Siger) where
   abbrev pub Unlike : ℕ → ℕ → Type 0
   Unlike i j = any (same_wire (here i)) (take j xs) ≡ false
 
-  abbrev pub copies : ℕ → ℕ → Bool
-  copies i j = both (has_first (tallyAt i).firsts j) (same_wire (here i) (here j))
+  abbrev pub copies : Tally → ℕ → ℕ → Bool
+  copies t i j = both (has_first t.firsts j) (same_wire (here i) (here j))
 
   pub unlike-none : (i : ℕ) → Unlike i 0
   unlike-none i = none_before (here i)
 
-  module _ (short : length xs ≤ 48) (i : ℕ) (in_List : i < length xs) where
-    pub unlike-next : (j : ℕ) → j < i → Unlike i j → copies i j ≡ false → Unlike i (j + 1)
-    unlike-next j h u e = list-other xs i (firsts_in xs i) refl (here i) j h (omega arith) (omega arith) u e
+  module _ (short : length xs ≤ 48) (i : ℕ) (in_List : i < length xs) {t : Tally} (so : t ≡ tallyAt i) where
+    pub unlike-next : (j : ℕ) → j < i → Unlike i j → false ≡ copies t i j → Unlike i (j + 1)
+    unlike-next j h u e =
+        let d = sym (e ∙ ap (λ (a : Tally). copies a i j) so) in
+        list-other xs i (firsts_in xs i) refl (here i) j h (omega arith) (omega arith) u d
 
     fit-more : both (all ondex_fits (take i xs)) (ondex_fits (here i)) ≡ all ondex_fits (take (i + 1) xs)
     fit-more = rw (add-one i, take-suc xs i blank in_List) (sym (all_more ondex_fits (take i xs) (here i)))
 
-    pub copy_step : (j : ℕ) → j < i → copies i j ≡ true → step_of witnesses (tallyAt i) (here i) i j ≡ tallyAt (i + 1)
+    stepped : (j : ℕ) → step_of witnesses t (here i) i j ≡ step_of witnesses (tallyAt i) (here i) i j
+    stepped j = ap (λ (a : Tally). step_of witnesses a (here i) i j) so
+
+    pub copy_step : (j : ℕ) → j < i → true ≡ copies t i j → step_of witnesses t (here i) i j ≡ tallyAt (i + 1)
     copy_step j h e =
-        let f = list_copy xs i (firsts_in xs i) refl (here i) j h (omega arith) e in
-        sym (step-copy witnesses (tallyAt i) (here i) i j refl h)
+        let d = sym (e ∙ ap (λ (a : Tally). copies a i j) so) in
+        let f = list_copy xs i (firsts_in xs i) refl (here i) j h (omega arith) d in
+        stepped j ∙ sym (step-copy witnesses (tallyAt i) (here i) i j refl h)
         ∙ tally (firsts-kept xs i (firsts_in xs i) refl f) (next-copy witnesses 0 xs i (counted_of witnesses 0 (take i xs)) in_List refl f) fit-more
 
-    pub first_step : (j : ℕ) → i ≤ j → j ≤ i → Unlike i j → step_of witnesses (tallyAt i) (here i) i j ≡ tallyAt (i + 1)
+    pub first_step : (j : ℕ) → i ≤ j → j ≤ i → Unlike i j → step_of witnesses t (here i) i j ≡ tallyAt (i + 1)
     first_step j h k d =
         let u : Unlike i i = subst (Unlike i) (le_antisymm k h) d in
-        sym (step-first witnesses (tallyAt i) (here i) i j refl h refl refl)
+        stepped j ∙ sym (step-first witnesses (tallyAt i) (here i) i j refl h refl refl)
         ∙ tally (firsts-with xs i (firsts_in xs i) refl (omega arith) u) (next_more witnesses 0 xs i (counted_of witnesses 0 (take i xs)) in_List refl u) fit-more
 
 -- ---- the whole answer
@@ -114,9 +114,9 @@ module _ (toad witnesses : ℕ) (xs : List Siger) where
   unfolding receipted_from
   too_many h = rw (lt-leb (length xs) 48 h)
 
-  pub few-enough : length xs ≤ 48 → concluded toad (tallyAt witnesses xs (length xs)) ≡ receipted_from toad witnesses xs
+  pub few-enough : length xs ≤ 48 → (i : ℕ) → length xs ≤ i → {t : Tally} → t ≡ tallyAt witnesses xs i → concluded toad t ≡ receipted_from toad witnesses xs
   unfolding receipted_from concluded
-  few-enough h = rw (take_all (length xs) xs (le_refl (length xs)), le-leb (length xs) 48 h, places-set (verified_at witnesses xs))
+  few-enough h i k so = rw so (rw (take_all i xs k, le-leb (length xs) 48 h, places-set (verified_at witnesses xs)))
 
 -- a list of the right shape, held by value, gets what it gets lent
 pub as_by_value : (w : Witnessing) (l : Sigers) → length l.at ≡ 48 → shape_of l ≡ 0 → receipted_from w.toad (length (listed w.witnesses)) (signatures l) ≡ witnessed w l

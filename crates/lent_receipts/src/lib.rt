@@ -90,7 +90,7 @@ fn too_many() -> Answer
     answer::refuse(4, 0, 0)
 }
 
-// "one entry takes a lent list of signature structs, as `receipted_by` does". Its proof is a walk by hand: a change of this body asks for a change there.
+// "one entry takes a lent list of signature structs, as `receipted_by` does".
 pub fn receipted_by(toad: u32, witnesses: usize, receipts: &[Siger]) -> Answer
     ensures { result ≡ receipted_from toad witnesses receipts.now }
 {

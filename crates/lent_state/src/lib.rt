@@ -29,7 +29,7 @@ pub fn ingest(s: KeyState, e: Event) -> Ingested
     }
 }
 
-// "One entry alters a lent key state, as `ingest_mut` does". Its proof is a walk by hand: a change of this body asks for a change there.
+// "One entry alters a lent key state, as `ingest_mut` does".
 pub fn ingest_mut(s: &mut KeyState, e: Event) -> Answer
     ensures { (result ≡ (ingested s.old e).answer) × (s.new ≡ (ingested s.old e).state) }
 {

@@ -1,7 +1,6 @@
 use mathlib.Core.Path.{◌∙◌}
 use borrow.Author.Tests.{not-true, not-false}
 use Rattle.lent_receipts.proofs.Laws.{conclude-fault, conclude-good}
-use borrow.Author.Rules.{rules}
 use Rattle.lent_receipts.proofs.conclude.Goals as goal
 
 pub returns-then-not-t : goal.returns-then-not-t

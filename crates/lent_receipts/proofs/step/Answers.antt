@@ -1,5 +1,4 @@
 use Rattle.lent_receipts.proofs.Laws.{step-copy, step-first}
-use borrow.Author.Rules.{rules}
 use Rattle.lent_receipts.proofs.step.Goals as goal
 
 pub returns-then-j-i : goal.returns-then-j-i
