@@ -60,12 +60,12 @@ real_weight w vs p = (p.1.1.0.1, p.1.1.1.0.1)
 pub raw-32 : (x : Item) (vs : List Val) → Is item.the_row x vs → length x.raw ≡ 32
 raw-32 x vs p = p.1.1.1.0.1.0.1
 
-raws_32 : (xs : List Item) (us : List Val) → shadow (each _ (item.the_field).row.own_val (map (item.the_field).into xs) us) → Each (λ x. length x.raw ≡ 32) xs
+raws_32 : (xs : List Item) (us : List Val) → shadow (each (item.the_row).Denot (item.the_row).own_val xs us) → Each (λ x. length x.raw ≡ 32) xs
 raws_32 [] us s = tt
 raws_32 (x ∷ xs) [] s = absurd s
 raws_32 (x ∷ xs) (u ∷ us) s = (raw-32 x (u ∷ []) s.0, raws_32 xs us s.1)
 
-words-64 : (ws : List Weight) (us : List Val) → shadow (each _ (weight.the_field).row.own_val (map (weight.the_field).into ws) us)
+words-64 : (ws : List Weight) (us : List Val) → shadow (each (weight.the_row).Denot (weight.the_row).own_val ws us)
     → Each (λ w. Words w.num w.den) ws
 words-64 [] us s = tt
 words-64 (w ∷ ws) [] s = absurd s

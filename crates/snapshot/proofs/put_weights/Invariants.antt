@@ -1,0 +1,15 @@
+use mathlib.Core.Path.{◌≡◌, refl}
+use Prim.Native.Nat.{◌-◌, ◌≤◌}
+use native.Mathlib.Omega.{arith}
+use lib.ListN.{length, drop, take}
+use Rattle.snapshot.specs.Bytes.{each, weight_bytes}
+use Rattle.writer.proofs.Laws.{Left, begin}
+use Rattle.snapshot.proofs.Laws.{each_fits, each_more, each-done}
+use Rattle.threshold.proofs.Laws.{no_weight}
+use Rattle.snapshot.proofs.put_weights.Given as goal
+
+abbrev pub invariant-loop-i : goal.invariant-loop-i
+invariant-loop-i l = (l.i ≤ l.n) × (l.n ≤ 16) × (length l.weights ≡ 16) × (length l.buf ≡ length l.initial.buf) × Left (each weight_bytes (take l.n l.weights)) l.initial.p l.initial.buf (each weight_bytes (drop l.i (take l.n l.weights))) l.p l.buf
+
+abbrev pub decreases-loop-i : goal.decreases-loop-i
+decreases-loop-i l = l.n - l.i
