@@ -1,10 +1,12 @@
-// Standard input, record by record, through one window of bytes, and standard output: input of any length in bounded memory.
+// An input, record by record, through one window of bytes, and an output: input of any length in bounded memory. The input is
+// whatever reads and the output whatever writes; a program hands over its standard input and its standard output.
 #![tactic(auto)]
 
-ghost use Rattle.std.specs.Prelude.{◌≡◌, true, ◌+◌, ◌-◌, ◌≤◌, ◌<◌, length, take, drop};
+ghost use Rattle.std.specs.Prelude.{◌≡◌, ◌+◌, ◌-◌, ◌≤◌, ◌<◌, IsOk, length, take, drop};
 ghost use Rattle.stream.specs.Window.{size_of, Stay, Reached, Longer, Holds, Stands, IsCut, Found};
 
-use cursor::Num16;
+use std::io;
+use std::io::{Error, ErrorKind, Read, Write};
 
 // A record's mark and length, and the bytes that decide: "a body past the longest legal one is decided by its first bytes", one
 // more than the longest has. Crate decoded shows, as `first-bytes`, that they decide.
@@ -27,57 +29,58 @@ pub struct Place {
 }
 
 // A record; bytes that are none, where the input ends; no byte, where it ends; or a read that failed, which is not the end of the
-// input: standard error says why. It has failed too where the window is too short or the span is none.
+// input, and why. It has failed too where the window is too short or the span is none.
 #[derive(Clone, Copy)]
 pub enum Next {
     Record(Place),
     Cut,
     Ended,
-    Failed,
+    Failed(Error),
 }
 
-// What reading did: there are bytes up to a place, the input has ended, or a read failed.
+// What a read did: there are bytes up to a place, the input has ended, or the read failed. A write does the same: the bytes up to a
+// place are written, the output takes no more, or the write failed.
 #[derive(Clone, Copy)]
 enum Input {
     To(usize),
     Ended,
-    Failed,
+    Failed(Error),
 }
 
 #[derive(Clone, Copy)]
 enum Held {
     Of(Span),
-    Failed,
+    Failed(Error),
 }
 
 // A call that a signal interrupted is made again.
-fn failed(what: &[u8], to: usize, end: usize) -> Input
+fn failed(e: Error, to: usize, end: usize) -> Input
     requires { to ≤ end }
     ensures { Reached to end result }
 {
-    if os::errno() == libc::EINTR {
+    if e.kind() == ErrorKind::Interrupted {
         return Input::To(to);
     }
-    os::fail(what);
-    Input::Failed
+    Input::Failed(e)
+}
+
+// A proved loop has to end, and nothing says that a signal does not interrupt every call: so the calls are counted, up to a number
+// that no run reaches.
+fn too_often() -> Error {
+    Error::new(ErrorKind::TimedOut, "interrupted at every call")
 }
 
 // One read into the window's bytes from `to` to `end`.
-fn read_some(window: &mut [u8], to: usize, end: usize) -> Input
+fn read_some<R: Read>(input: &mut R, window: &mut [u8], to: usize, end: usize) -> Input
     requires { (to ≤ end) × (end ≤ length window.old) }
     ensures reached { Reached to end result }
     ensures window_unchanged { take to window.new ≡ take to window.old }
 {
-    let part = &mut window[to..end];
-    let got = libc::read(libc::STDIN_FILENO, part);
-    if got < 0 {
-        return failed(b"standard input", to, end);
+    match input.read(&mut window[to..end]) {
+        Ok(0) => Input::Ended,
+        Ok(n) => Input::To(to + n),
+        Err(e) => failed(e, to, end),
     }
-    let n = io::count(got, part);
-    if n == 0 {
-        return Input::Ended;
-    }
-    Input::To(to + n)
 }
 
 // Where the input ended, the bytes up to `to` are all.
@@ -88,55 +91,50 @@ fn stopped(x: Input, to: usize, end: usize) -> Input
     match x {
         Input::To(_) => Input::To(to),
         Input::Ended => Input::To(to),
-        Input::Failed => Input::Failed,
+        Input::Failed(e) => Input::Failed(e),
     }
 }
 
-// Reads until there are bytes up to `want`, or the input ends. A proved loop has to end, and nothing says that a signal does not
-// interrupt every read: so turns are counted, down from a number that no run uses up.
-fn fill(window: &mut [u8], have: usize, want: usize) -> Input
+// Reads until there are bytes up to `want`, or the input ends.
+fn fill<R: Read>(input: &mut R, window: &mut [u8], have: usize, want: usize) -> Input
     requires { have ≤ length window.old }
     ensures reached { Reached have (length window.old) result }
     ensures window_unchanged { take have window.new ≡ take have window.old }
 {
     let end = window.len();
     let mut to = have;
-    let mut turns = u64::MAX;
-    while to < want {
-        if turns == 0 {
-            return Input::Failed;
+    for _ in 0..u64::MAX {
+        if want <= to {
+            return Input::To(to);
         }
-        turns -= 1;
-        let got = read_some(window, to, end);
+        let got = read_some(input, window, to, end);
         let Input::To(n) = got else {
             return stopped(got, to, end);
         };
         to = n;
     }
-    Input::To(to)
+    Input::Failed(too_often())
 }
 
 // Reads `count` bytes and forgets them: they go behind the first `from` bytes of the window.
-fn skip(window: &mut [u8], from: usize, count: usize) -> Input
+fn skip<R: Read>(input: &mut R, window: &mut [u8], from: usize, count: usize) -> Input
     requires { from ≤ length window.old }
     ensures { take from window.new ≡ take from window.old }
 {
     let room = window.len() - from;
     let mut left = count;
-    let mut turns = u64::MAX;
-    while 0 < left {
-        if turns == 0 {
-            return Input::Failed;
+    for _ in 0..u64::MAX {
+        if left == 0 {
+            return Input::To(from);
         }
-        turns -= 1;
         let end = from + least(left, room);
-        let got = read_some(window, from, end);
+        let got = read_some(input, window, from, end);
         let Input::To(n) = got else {
             return got;
         };
-        left = left - (n - from);
+        left -= n - from;
     }
-    Input::To(from)
+    Input::Failed(too_often())
 }
 
 fn least(a: usize, b: usize) -> usize
@@ -151,16 +149,13 @@ fn slide(window: &mut [u8], from: usize, to: usize)
     requires { (from ≤ to) × (to ≤ length window.old) }
     ensures { take (to - from) window.new ≡ take (to - from) (drop from window.old) }
 {
-    let n = to - from;
-    let mut i: usize = 0;
-    while i < n {
+    for i in 0..to - from {
         window[i] = window[from + i];
-        i += 1;
     }
 }
 
 // The unused bytes, read on until there are `want`, or all that is left of the input.
-fn hold(window: &mut [u8], span: Span, want: usize) -> Held
+fn hold<R: Read>(input: &mut R, window: &mut [u8], span: Span, want: usize) -> Held
     requires from_le_to { span.from ≤ span.to }
     requires to_in_bounds { span.to ≤ length window.old }
     ensures { Holds window.old span window.new result }
@@ -172,11 +167,11 @@ fn hold(window: &mut [u8], span: Span, want: usize) -> Held
         return Held::Of(span);
     }
     slide(window, from, to);
-    let filled = fill(window, have, want);
-    let Input::To(n) = filled else {
-        return Held::Failed;
-    };
-    Held::Of(Span { from: 0, to: n })
+    match fill(input, window, have, want) {
+        Input::To(n) => Held::Of(Span { from: 0, to: n }),
+        Input::Ended => Held::Of(Span { from: 0, to: have }),
+        Input::Failed(e) => Held::Failed(e),
+    }
 }
 
 // How long the record is that stands at a place, by its length.
@@ -184,14 +179,11 @@ fn size_at(window: &[u8], at: usize) -> usize
     requires { at + 4 ≤ length window.now }
     ensures { result ≡ size_of (drop at window.now) }
 {
-    match cursor::read_u16(window, at + 2) {
-        Num16::Of(n, _) => 4 + n as usize,
-        Num16::Short => 4,
-    }
+    4 + (window[at + 2] as usize * 256 + window[at + 3] as usize)
 }
 
 // A record that the window cannot hold: the window is filled, the rest of the record stepped over.
-fn long(window: &mut [u8], head: Span, size: usize) -> Next
+fn long<R: Read>(input: &mut R, window: &mut [u8], head: Span, size: usize) -> Next
     requires in_bounds { 10090 < length window.old }
     requires from_le_to { head.from ≤ head.to }
     requires to_in_bounds { head.to ≤ length window.old }
@@ -201,16 +193,16 @@ fn long(window: &mut [u8], head: Span, size: usize) -> Next
     ensures { Found window.old head window.new result }
 {
     let len = window.len();
-    let held = hold(window, head, len);
-    let Held::Of(full) = held else {
-        return Next::Failed;
+    let full = match hold(input, window, head, len) {
+        Held::Of(full) => full,
+        Held::Failed(e) => return Next::Failed(e),
     };
     let from = full.from;
     if full.to - from < len {
         return Next::Cut;
     }
     let kept = from + KEPT;
-    let over = skip(window, kept, size - len);
+    let over = skip(input, window, kept, size - len);
     let Input::To(_) = over else {
         return unfinished(over);
     };
@@ -228,12 +220,12 @@ fn unfinished(x: Input) -> Next
     match x {
         Input::To(_) => Next::Cut,
         Input::Ended => Next::Cut,
-        Input::Failed => Next::Failed,
+        Input::Failed(e) => Next::Failed(e),
     }
 }
 
 // A record that the window can hold.
-fn short(window: &mut [u8], head: Span, size: usize) -> Next
+fn short<R: Read>(input: &mut R, window: &mut [u8], head: Span, size: usize) -> Next
     requires from_le_to { head.from ≤ head.to }
     requires to_in_bounds { head.to ≤ length window.old }
     requires bound { 4 ≤ head.to - head.from }
@@ -241,9 +233,9 @@ fn short(window: &mut [u8], head: Span, size: usize) -> Next
     requires size_in_bounds { size ≤ length window.old }
     ensures { Found window.old head window.new result }
 {
-    let held = hold(window, head, size);
-    let Held::Of(whole) = held else {
-        return Next::Failed;
+    let whole = match hold(input, window, head, size) {
+        Held::Of(whole) => whole,
+        Held::Failed(e) => return Next::Failed(e),
     };
     let from = whole.from;
     let end = whole.to;
@@ -258,15 +250,15 @@ fn short(window: &mut [u8], head: Span, size: usize) -> Next
 }
 
 // The next record of the input, read from the window's unused bytes on.
-fn first(window: &mut [u8], span: Span) -> Next
+fn first<R: Read>(input: &mut R, window: &mut [u8], span: Span) -> Next
     requires in_bounds { 10090 < length window.old }
     requires from_le_to { span.from ≤ span.to }
     requires to_in_bounds { span.to ≤ length window.old }
     ensures { Found window.old span window.new result }
 {
-    let held = hold(window, span, 4);
-    let Held::Of(head) = held else {
-        return Next::Failed;
+    let head = match hold(input, window, span, 4) {
+        Held::Of(head) => head,
+        Held::Failed(e) => return Next::Failed(e),
     };
     let at = head.from;
     let n = head.to - at;
@@ -278,57 +270,47 @@ fn first(window: &mut [u8], span: Span) -> Next
     }
     let size = size_at(window, at);
     if window.len() < size {
-        return long(window, head, size);
+        return long(input, window, head, size);
     }
-    short(window, head, size)
+    short(input, window, head, size)
 }
 
-pub fn read_next(window: &mut [u8], span: Span) -> Next
+pub fn read_next<R: Read>(input: &mut R, window: &mut [u8], span: Span) -> Next
     ensures { Found window.old span window.new result }
 {
     let len = window.len();
-    if len <= KEPT {
-        return Next::Failed;
+    if len <= KEPT || len < span.to || span.to < span.from {
+        return Next::Failed(Error::from(ErrorKind::InvalidInput));
     }
-    if len < span.to {
-        return Next::Failed;
-    }
-    if span.to < span.from {
-        return Next::Failed;
-    }
-    first(window, span)
+    first(input, window, span)
 }
 
 // One write of the bytes from `done` on.
-fn write_some(out: &[u8], done: usize) -> Input
+fn write_some<W: Write>(output: &mut W, out: &[u8], done: usize) -> Input
     requires { done ≤ length out.now }
     ensures { Reached done (length out.now) result }
 {
-    let part = &out[done..];
-    let put = libc::write(libc::STDOUT_FILENO, part);
-    if put <= 0 {
-        return failed(b"standard output", done, out.len());
+    match output.write(&out[done..]) {
+        Ok(0) => Input::Ended,
+        Ok(n) => Input::To(done + n),
+        Err(e) => failed(e, done, out.len()),
     }
-    let n = io::count(put, part);
-    Input::To(done + n)
 }
 
-// Writes all, or says on standard error why not.
-pub fn write_all(out: &[u8]) -> bool
-    ensures { length out.now ≡ 0 → result ≡ true }
+// Writes all, or says why not.
+pub fn write_all<W: Write>(output: &mut W, out: &[u8]) -> io::Result<()>
+    ensures { length out.now ≡ 0 → IsOk result }
 {
     let mut done: usize = 0;
-    let mut turns = u64::MAX;
-    while done < out.len() {
-        if turns == 0 {
-            return false;
+    for _ in 0..u64::MAX {
+        if out.len() <= done {
+            return Ok(());
         }
-        turns -= 1;
-        let put = write_some(out, done);
-        let Input::To(n) = put else {
-            return false;
-        };
-        done = n;
+        match write_some(output, out, done) {
+            Input::To(n) => done = n,
+            Input::Ended => return Err(Error::from(ErrorKind::WriteZero)),
+            Input::Failed(e) => return Err(e),
+        }
     }
-    true
+    Err(too_often())
 }
