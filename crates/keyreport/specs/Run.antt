@@ -15,4 +15,4 @@ body_at w p = take (p.to - (p.from + 4)) (drop (p.from + 4) w)
 -- a line fits behind the place
 abbrev pub Fits : ℕ → Room → Type 0
 Fits most (R.From at) = at + longest ≤ most
-Fits most R.Failed = Unit {0}
+Fits most (R.Failed e) = Unit {0}
