@@ -2,13 +2,16 @@
 --     taken_less, part_same, same_size     parts of two windows that begin alike
 --     slide-..                             a loop that moves bytes to the start: i are moved
 --     short_stands, long_stands            a record in the window
-use Rattle.std.proofs.Common.{◌≡◌, sym, ap, ◌∙◌, List, ℕ, ◌+◌, ◌-◌, ◌≤◌, ◌<◌, add-zero, add-one, arith, length, take, drop, get_or, set, length-drop, take-add, drop_at, length-take-le, take-take, take-suc, take-suc-set, drop-set-lt, drop-drop, get_or-drop, get_or-take, le-leb}
+use Rattle.std.proofs.Common.{◌≡◌, sym, ap, ◌∙◌, List, ℕ, ◌+◌, ◌-◌, ◌≤◌, ◌<◌, add-zero, add-one, arith, length, take, drop, get_or, set, length-drop, length-take, take-add, drop_at, length-take-le, take-take, take-suc, take-suc-set, drop-set-lt, drop-drop, get_or-drop, get_or-take, le-leb}
 use borrow.Author.Tests.{lt-leb}
 use Rattle.stream.specs.declared.Span.{Span}
 use Rattle.stream.specs.Window.{size_of, Longer, Stands}
 
 pub taken_less : (w v : List ℕ) (have to : ℕ) → have ≤ to → take to w ≡ take to v → take have w ≡ take have v
 taken_less w v have to h e = sym (take-take have to w h) ∙ ap (take have) e ∙ take-take have to v h
+
+pub part_length : (xs : List ℕ) (a e : ℕ) → a ≤ e → e ≤ length xs → length (take (e - a) (drop a xs)) ≡ e - a
+part_length xs a e h k = simp (length-take, length-drop) (omega arith)
 
 -- ---- As a loop moves bytes to the start
 module _ (w₀ w : List ℕ) (from i : ℕ) (h : from + i < length w) (same : length w ≡ length w₀) (moved : take i w ≡ take i (drop from w₀)) (left : drop (from + i) w ≡ drop (from + i) w₀) where
@@ -45,10 +48,14 @@ same_size xs ys e = rw (byte_at 2 (omega arith), byte_at 3 (omega arith))
     byte_at : (i : ℕ) → i < 4 → get_or xs i 0 ≡ get_or ys i 0
     byte_at i h = sym (get_or-take 4 xs i 0 h) ∙ ap (λ (l : List ℕ). get_or l i 0) e ∙ get_or-take 4 ys i 0 h
 
+-- how long the record is, where its first bytes were moved
+pub size_moved : (w₀ w : List ℕ) (old s : Span) (size : ℕ) → Longer w₀ old w s → 4 ≤ old.to - old.from → size ≡ size_of (drop old.from w₀) → size ≡ size_of (drop s.from w)
+size_moved w₀ w old s size l four is = is ∙ sym (same_size (drop s.from w) (drop old.from w₀) (l.stay 4 four))
+
 pub short_stands : (w₀ w : List ℕ) (head s : Span) (size : ℕ) → Longer w₀ head w s → 4 ≤ head.to - head.from → size ≡ size_of (drop head.from w₀)
     → size ≤ length w → size ≤ s.to - s.from → Stands w₀ head w (record { from = s.from; to = s.from + size; end = s.to })
 short_stands w₀ w head s size l four is fits all =
-    let e : size_of (drop s.from w) ≡ size = same_size (drop s.from w) (drop head.from w₀) (l.stay 4 four) ∙ sym is in
+    let e : size_of (drop s.from w) ≡ size = sym (size_moved w₀ w head s size l four is) in
     let o = l.ordered in
     record {
       begins = omega arith;

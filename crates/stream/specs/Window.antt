@@ -1,5 +1,5 @@
--- What is promised of the window that standard input is read through. No contract can say which bytes a read brings; what is
--- stated is where they stand, that a record is as long as its length says, and that bytes that are read and not used stay.
+-- What is promised of the window that an input is read through, whatever the input is: where the bytes stand that a read brings,
+-- that a record is as long as its length says, and that bytes that are read and not used stay. Which bytes they are is in Left.
 use Rattle.std.specs.Prelude.{ℕ, ◌+◌, ◌-◌, ◌*◌, ◌≤◌, ◌≡◌, List, leb, length, take, drop, get_or, cond}
 use Rattle.stream.specs.declared.Span.{Span}
 use Rattle.stream.specs.declared.Place.{Place}

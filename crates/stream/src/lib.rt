@@ -2,8 +2,10 @@
 // whatever reads and the output whatever writes; a program hands over its standard input and its standard output.
 #![tactic(auto)]
 
-ghost use Rattle.std.specs.Prelude.{◌≡◌, ◌+◌, ◌-◌, ◌≤◌, ◌<◌, IsOk, length, take, drop};
+ghost use Rattle.std.specs.Prelude.{◌≡◌, ℕ, ◌+◌, ◌-◌, ◌≤◌, ◌<◌, min, IsOk, OnOk, IfSome, length, take, drop};
+ghost use Rattle.std.specs.Io.KnownBytes.{Appends};
 ghost use Rattle.stream.specs.Window.{size_of, Stay, Reached, Longer, Holds, Stands, IsCut, Found};
+ghost use Rattle.stream.specs.Left.{left_of, Stays, stopped_at, Brought, Filled, Skipped, HoldsLeft, Gives, Wrote, unfinished_as};
 
 use std::io;
 use std::io::{Error, ErrorKind, Read, Write};
@@ -56,7 +58,8 @@ enum Held {
 // A call that a signal interrupted is made again.
 fn failed(e: Error, to: usize, end: usize) -> Input
     requires { to ≤ end }
-    ensures { Reached to end result }
+    ensures reached { Reached to end result }
+    ensures stays { Stays to result }
 {
     if e.kind() == ErrorKind::Interrupted {
         return Input::To(to);
@@ -75,6 +78,7 @@ fn read_some<R: Read>(input: &mut R, window: &mut [u8], to: usize, end: usize) -
     requires { (to ≤ end) × (end ≤ length window.old) }
     ensures reached { Reached to end result }
     ensures window_unchanged { take to window.new ≡ take to window.old }
+    ensures bytes { Brought (R.remaining input.old) (R.remaining input.new) to end window.new result }
 {
     match input.read(&mut window[to..end]) {
         Ok(0) => Input::Ended,
@@ -86,7 +90,8 @@ fn read_some<R: Read>(input: &mut R, window: &mut [u8], to: usize, end: usize) -
 // Where the input ended, the bytes up to `to` are all.
 fn stopped(x: Input, to: usize, end: usize) -> Input
     requires { to ≤ end }
-    ensures { Reached to end result }
+    ensures reached { Reached to end result }
+    ensures value { result ≡ stopped_at to x }
 {
     match x {
         Input::To(_) => Input::To(to),
@@ -100,6 +105,7 @@ fn fill<R: Read>(input: &mut R, window: &mut [u8], have: usize, want: usize) -> 
     requires { have ≤ length window.old }
     ensures reached { Reached have (length window.old) result }
     ensures window_unchanged { take have window.new ≡ take have window.old }
+    ensures bytes { Filled (R.remaining input.old) (R.remaining input.new) have want window.new result }
 {
     let end = window.len();
     let mut to = have;
@@ -119,7 +125,8 @@ fn fill<R: Read>(input: &mut R, window: &mut [u8], have: usize, want: usize) -> 
 // Reads `count` bytes and forgets them: they go behind the first `from` bytes of the window.
 fn skip<R: Read>(input: &mut R, window: &mut [u8], from: usize, count: usize) -> Input
     requires { from ≤ length window.old }
-    ensures { take from window.new ≡ take from window.old }
+    ensures window_unchanged { take from window.new ≡ take from window.old }
+    ensures bytes { Skipped (R.remaining input.old) (R.remaining input.new) from (length window.old) count result }
 {
     let room = window.len() - from;
     let mut left = count;
@@ -140,6 +147,7 @@ fn skip<R: Read>(input: &mut R, window: &mut [u8], from: usize, count: usize) ->
 fn least(a: usize, b: usize) -> usize
     ensures upper_bound { result ≤ a }
     ensures upper_bound_2 { result ≤ b }
+    ensures value { result ≡ min a b }
 {
     if a < b { a } else { b }
 }
@@ -158,7 +166,8 @@ fn slide(window: &mut [u8], from: usize, to: usize)
 fn hold<R: Read>(input: &mut R, window: &mut [u8], span: Span, want: usize) -> Held
     requires from_le_to { span.from ≤ span.to }
     requires to_in_bounds { span.to ≤ length window.old }
-    ensures { Holds window.old span window.new result }
+    ensures holds { Holds window.old span window.new result }
+    ensures bytes { HoldsLeft (left_of window.old span (R.remaining input.old)) (R.remaining input.new) want window.new result }
 {
     let from = span.from;
     let to = span.to;
@@ -190,7 +199,8 @@ fn long<R: Read>(input: &mut R, window: &mut [u8], head: Span, size: usize) -> N
     requires bound { 4 ≤ head.to - head.from }
     requires size_value { size ≡ size_of (drop head.from window.old) }
     requires window_len_bound { length window.old < size }
-    ensures { Found window.old head window.new result }
+    ensures found { Found window.old head window.new result }
+    ensures bytes { IfSome (left_of window.old head (R.remaining input.old)) (λ s. Gives s window.new (R.remaining input.new) result) }
 {
     let len = window.len();
     let full = match hold(input, window, head, len) {
@@ -215,7 +225,8 @@ fn long<R: Read>(input: &mut R, window: &mut [u8], head: Span, size: usize) -> N
 
 // The input ended inside a record, or a read failed.
 fn unfinished(x: Input) -> Next
-    ensures { IsCut result }
+    ensures cut { IsCut result }
+    ensures value { result ≡ unfinished_as x }
 {
     match x {
         Input::To(_) => Next::Cut,
@@ -231,7 +242,8 @@ fn short<R: Read>(input: &mut R, window: &mut [u8], head: Span, size: usize) -> 
     requires bound { 4 ≤ head.to - head.from }
     requires size_value { size ≡ size_of (drop head.from window.old) }
     requires size_in_bounds { size ≤ length window.old }
-    ensures { Found window.old head window.new result }
+    ensures found { Found window.old head window.new result }
+    ensures bytes { IfSome (left_of window.old head (R.remaining input.old)) (λ s. Gives s window.new (R.remaining input.new) result) }
 {
     let whole = match hold(input, window, head, size) {
         Held::Of(whole) => whole,
@@ -254,7 +266,8 @@ fn first<R: Read>(input: &mut R, window: &mut [u8], span: Span) -> Next
     requires in_bounds { 10090 < length window.old }
     requires from_le_to { span.from ≤ span.to }
     requires to_in_bounds { span.to ≤ length window.old }
-    ensures { Found window.old span window.new result }
+    ensures found { Found window.old span window.new result }
+    ensures bytes { IfSome (left_of window.old span (R.remaining input.old)) (λ s. Gives s window.new (R.remaining input.new) result) }
 {
     let head = match hold(input, window, span, 4) {
         Held::Of(head) => head,
@@ -276,7 +289,8 @@ fn first<R: Read>(input: &mut R, window: &mut [u8], span: Span) -> Next
 }
 
 pub fn read_next<R: Read>(input: &mut R, window: &mut [u8], span: Span) -> Next
-    ensures { Found window.old span window.new result }
+    ensures found { Found window.old span window.new result }
+    ensures bytes { IfSome (left_of window.old span (R.remaining input.old)) (λ s. Gives s window.new (R.remaining input.new) result) }
 {
     let len = window.len();
     if len <= KEPT || len < span.to || span.to < span.from {
@@ -288,7 +302,8 @@ pub fn read_next<R: Read>(input: &mut R, window: &mut [u8], span: Span) -> Next
 // One write of the bytes from `done` on.
 fn write_some<W: Write>(output: &mut W, out: &[u8], done: usize) -> Input
     requires { done ≤ length out.now }
-    ensures { Reached done (length out.now) result }
+    ensures reached { Reached done (length out.now) result }
+    ensures bytes { Wrote (W.contents output.old) (W.contents output.new) done out.now result }
 {
     match output.write(&out[done..]) {
         Ok(0) => Input::Ended,
@@ -299,7 +314,8 @@ fn write_some<W: Write>(output: &mut W, out: &[u8], done: usize) -> Input
 
 // Writes all, or says why not.
 pub fn write_all<W: Write>(output: &mut W, out: &[u8]) -> io::Result<()>
-    ensures { length out.now ≡ 0 → IsOk result }
+    ensures nothing { length out.now ≡ 0 → IsOk result }
+    ensures bytes { OnOk result (Appends (W.contents output.old) (W.contents output.new) out.now) }
 {
     let mut done: usize = 0;
     for _ in 0..u64::MAX {
