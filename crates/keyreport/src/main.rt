@@ -2,9 +2,13 @@
 // stays the bytes that it is saved as.
 #![tactic(auto)]
 
-ghost use Rattle.std.specs.Prelude.{◌≡◌, ◌+◌, ◌≤◌, length};
-ghost use Rattle.in_place.specs.Calls.{body_offered_in};
-ghost use Rattle.keyreport.specs.Run.{mark_at, body_at, Fits};
+ghost use Rattle.std.specs.Prelude.{◌≡◌, ◌+◌, ◌≤◌, [], ◌++◌, length, take, OnOk};
+ghost use Rattle.std.specs.Io.KnownBytes.{Appends};
+ghost use Rattle.canonical.specs.Bytes.{Bytes};
+ghost use Rattle.found.specs.Kept.{kept_in};
+ghost use Rattle.report.specs.Report.{last_line};
+ghost use Rattle.in_place.specs.Calls.{offered_in, body_offered_in};
+ghost use Rattle.keyreport.specs.Run.{mark_at, body_at, Fits, Flushed, cut_lines, Finished, Ready, Reports};
 
 use answer::Answer;
 use cursor::Num16;
@@ -49,7 +53,8 @@ enum Room {
 fn make_room<W: Write>(output: &mut W, out: &[u8], at: usize) -> Room
     requires at_in_bounds { at ≤ length out.now }
     requires in_bounds { 111 ≤ length out.now }
-    ensures { Fits (length out.now) result }
+    ensures room { Fits (length out.now) result }
+    ensures bytes { Flushed (W.contents output.old) (W.contents output.new) (take at out.now) out.now result }
 {
     if lines::LONGEST <= out.len() - at {
         return Room::From(at);
@@ -78,6 +83,7 @@ fn offer(state: &mut [u8], used: &mut usize, mark: u16, window: &[u8], place: Pl
     ensures value { result ≡ (body_offered_in state.old used.old mark (body_at window.now place)).answer }
     ensures state_after { state.new ≡ (body_offered_in state.old used.old mark (body_at window.now place)).bytes }
     ensures used_after { used.new ≡ (body_offered_in state.old used.old mark (body_at window.now place)).used }
+    ensures body_bytes { Bytes (body_at window.now place) }
 {
     let body = place.from + 4;
     let to = place.to;
@@ -93,6 +99,7 @@ fn end<W: Write>(
     at: usize,
 ) -> Result<(), Failure>
     requires { at + 111 ≤ length out.old }
+    ensures { OnOk result (Appends (W.contents output.old) (W.contents output.new) (take at out.old ++ last_line t (kept_in state.now used).holder)) }
 {
     let behind = report::tell_end(t, state, used, out, at);
     stream::write_all(output, &out[..behind]).map_err(Failure::Output)
@@ -108,6 +115,7 @@ fn cut<W: Write>(
     at: usize,
 ) -> Result<(), Failure>
     requires { at + 111 ≤ length out.old }
+    ensures { OnOk result (Appends (W.contents output.old) (W.contents output.new) (take at out.old ++ cut_lines t (offered_in state.old used.old []))) }
 {
     let answer = in_place::offer(state, used, b"");
     let last = report::tell(t, 0, answer, out, at);
@@ -133,6 +141,7 @@ fn finish<W: Write>(
     at: usize,
 ) -> Result<(), Failure>
     requires { at + 111 ≤ length out.old }
+    ensures { OnOk result (Finished (W.contents output.old) (W.contents output.new) (take at out.old) t state.old used.old next) }
 {
     match next {
         Next::Cut => cut(output, t, state, used, out, at),
@@ -158,6 +167,7 @@ fn run<R: Read, W: Write>(
     out: &mut [u8],
 ) -> Result<(), Failure>
     requires { 111 ≤ length out.old }
+    ensures { Ready used.old state.old window.old → OnOk result (Reports (R.remaining input.old) (W.contents output.old) (W.contents output.new)) }
 {
     let mut t = report::begin();
     let mut span = Span { from: 0, to: 0 };
