@@ -330,3 +330,125 @@ pub fn write_all<W: Write>(output: &mut W, out: &[u8]) -> io::Result<()>
     }
     Err(too_often())
 }
+
+#[cfg(test)]
+mod tests {
+    use super::*;
+    use std::test::Fail;
+
+    // Gives a byte a call, and is interrupted before each one. Where it `fails`, an error comes in place of the end.
+    #[derive(Drop)]
+    struct Drip<'a> {
+        left: &'a [u8],
+        interrupts: bool,
+        fails: bool,
+    }
+
+    impl Read for Drip<'_> {
+        fn read(&mut self, buf: &mut [u8]) -> io::Result<usize> {
+            self.interrupts = !self.interrupts;
+            if !self.interrupts {
+                return Err(Error::from(ErrorKind::Interrupted));
+            }
+            let Some((first, left)) = self.left.split_first() else {
+                if self.fails {
+                    return Err(Error::from(ErrorKind::BrokenPipe));
+                }
+                return Ok(0);
+            };
+            if buf.is_empty() {
+                return Ok(0);
+            }
+            buf[0] = *first;
+            self.left = left;
+            Ok(1)
+        }
+    }
+
+    // Takes a byte a call, and is interrupted before each one, until it is full.
+    #[derive(Drop)]
+    struct Cup {
+        bytes: [u8; 4],
+        full: usize,
+        interrupts: bool,
+    }
+
+    impl Write for Cup {
+        fn write(&mut self, buf: &[u8]) -> io::Result<usize> {
+            self.interrupts = !self.interrupts;
+            if !self.interrupts {
+                return Err(Error::from(ErrorKind::Interrupted));
+            }
+            if buf.is_empty() || self.bytes.len() <= self.full {
+                return Ok(0);
+            }
+            self.bytes[self.full] = buf[0];
+            self.full += 1;
+            Ok(1)
+        }
+
+        fn flush(&mut self) -> io::Result<()> {
+            Ok(())
+        }
+    }
+
+    // A record, and the first bytes of another one, where the input ends.
+    #[test]
+    fn reads_a_byte_at_a_time(rt: HostRuntime) {
+        let mut input = Drip {
+            left: b"RO\x00\x01xIC\x00",
+            interrupts: true,
+            fails: false,
+        };
+        let mut window = [0u8; 10240];
+        let Next::Record(p) = read_next(&mut input, &mut window, Span { from: 0, to: 0 }) else {
+            panic!(rt; "no record");
+        };
+        assert_eq!(rt; p.to - p.from, 5);
+        assert_eq!(rt; &window[p.from..p.to], b"RO\x00\x01x".as_slice());
+        let rest = Span {
+            from: p.to,
+            to: p.end,
+        };
+        let next = read_next(&mut input, &mut window, rest);
+        assert!(rt; matches!(next, Next::Cut));
+    }
+
+    // The same, where the read behind the first record fails.
+    #[test]
+    fn a_failed_read_is_no_end(rt: HostRuntime) {
+        let mut input = Drip {
+            left: b"RO\x00\x01x",
+            interrupts: true,
+            fails: true,
+        };
+        let mut window = [0u8; 10240];
+        let Next::Record(p) = read_next(&mut input, &mut window, Span { from: 0, to: 0 }) else {
+            panic!(rt; "no record");
+        };
+        let rest = Span {
+            from: p.to,
+            to: p.end,
+        };
+        let Next::Failed(e) = read_next(&mut input, &mut window, rest) else {
+            panic!(rt; "no failure");
+        };
+        assert_eq!(rt; e.kind(), ErrorKind::BrokenPipe);
+    }
+
+    #[test]
+    fn writes_a_byte_at_a_time(rt: HostRuntime) -> Result<(), Fail> {
+        let mut output = Cup {
+            bytes: [0; 4],
+            full: 0,
+            interrupts: true,
+        };
+        write_all(&mut output, b"abc")?;
+        assert_eq!(rt; &output.bytes[..3], b"abc".as_slice());
+        let Err(e) = write_all(&mut output, b"de") else {
+            panic!(rt; "five bytes in four");
+        };
+        assert_eq!(rt; e.kind(), ErrorKind::WriteZero);
+        Ok(())
+    }
+}
