@@ -222,3 +222,66 @@ fn main(rt: HostRuntime) -> ExitCode {
         }
     }
 }
+
+#[cfg(test)]
+mod tests {
+    use super::*;
+    use std::alloc::Global;
+
+    // Fails where its bytes end, if it is `broken`.
+    #[derive(Drop)]
+    struct Source<'a> {
+        left: &'a [u8],
+        broken: bool,
+    }
+
+    impl Read for Source<'_> {
+        fn read(&mut self, buf: &mut [u8]) -> io::Result<usize> {
+            if self.left.is_empty() && self.broken {
+                return Err(io::Error::from(ErrorKind::BrokenPipe));
+            }
+            self.left.read(buf)
+        }
+    }
+
+    fn reported(alloc: Global, mut input: Source<'_>) -> (Vec<u8>, Result<(), Failure>) {
+        let mut output = Vec::new(alloc);
+        let mut state = [0u8; STATE];
+        let mut used: usize = 0;
+        let mut window = [0u8; WINDOW];
+        let mut out = [0u8; OUT];
+        let ended = run(
+            &mut input,
+            &mut output,
+            &mut state,
+            &mut used,
+            &mut window,
+            &mut out,
+        );
+        (output, ended)
+    }
+
+    // A record with a mark that is none: a line, and the last one.
+    #[test]
+    fn ends_a_report(rt: HostRuntime) {
+        let input = Source {
+            left: b"XX\x00\x00",
+            broken: false,
+        };
+        let (output, ended) = reported(rt.alloc(), input);
+        assert!(rt; ended.is_ok());
+        assert_eq!(rt; output.as_slice(), b"1 ?? 2 0 0\nend 0 1 -\n".as_slice());
+    }
+
+    // The same, where the next read fails.
+    #[test]
+    fn ends_no_report_of_a_failed_read(rt: HostRuntime) {
+        let input = Source {
+            left: b"XX\x00\x00",
+            broken: true,
+        };
+        let (output, ended) = reported(rt.alloc(), input);
+        assert!(rt; matches!(ended, Err(Failure::Input(_))));
+        assert_eq!(rt; output.as_slice(), b"1 ?? 2 0 0\n".as_slice());
+    }
+}
