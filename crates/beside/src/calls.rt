@@ -6,6 +6,8 @@ use cursor::Num8;
 use item::Kind;
 use items::Items;
 use state::Holder;
+use std::io;
+use std::io::Write;
 use threshold::{Judgement, Threshold};
 use toad::Taken;
 
@@ -300,7 +302,7 @@ fn put(s: &[u8], out: &mut [u8]) -> usize {
 }
 
 // s is the whole request, its mark and length included.
-pub(crate) fn answer(s: &[u8], out: &mut [u8]) {
+pub(crate) fn answer<W: Write>(output: &mut W, s: &[u8], out: &mut [u8]) -> io::Result<()> {
     let used = put(s, out);
-    text::write(out, used);
+    text::write(output, out, used)
 }

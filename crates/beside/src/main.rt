@@ -11,31 +11,35 @@ mod records;
 mod text;
 mod window;
 
+use std::env::Env;
+use std::io;
+
 // Argument i is -- and a word that begins with this letter.
-fn is_flag(i: usize, letter: u8) -> bool {
+fn is_flag(rt: &impl Env, i: usize, letter: u8) -> bool {
     let mut word = [0u8; 16];
-    let n = os::arg(i, &mut word);
-    if n < 3 {
-        return false;
+    match rt.arg(i, &mut word) {
+        Ok(n) => 3 <= n && word[2] == letter,
+        Err(_) => false,
     }
-    word[2] == letter
 }
 
-fn asked(letter: u8) -> bool {
-    is_flag(1, letter) || is_flag(2, letter)
+fn asked(rt: &impl Env, letter: u8) -> bool {
+    is_flag(rt, 1, letter) || is_flag(rt, 2, letter)
 }
 
-fn main() {
-    let states = asked(b's');
-    let fold = asked(b'f');
-    let mixed = asked(b'm');
+fn main(rt: HostRuntime) -> io::Result<()> {
+    let states = asked(&rt, b's');
+    let fold = asked(&rt, b'f');
+    let mixed = asked(&rt, b'm');
     // a mixed input begins with a record that says what follows; before it there is nothing to end
-    let calls = mixed || asked(b'c');
+    let calls = mixed || asked(&rt, b'c');
     let mode = records::Mode {
         states,
         fold,
         calls,
         mixed,
     };
-    window::run(mode);
+    let mut input = rt.stdin();
+    let mut output = rt.stdout();
+    window::run(&mut input, &mut output, mode)
 }

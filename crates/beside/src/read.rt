@@ -139,11 +139,9 @@ pub(crate) fn quorum(s: &[u8], at: usize, kind: Kind) -> Group {
 // The first 64 numbers; what cannot be had is 0.
 pub(crate) fn places(s: &[u8]) -> [u32; 64] {
     let mut places = [0u32; 64];
-    let mut i: usize = 0;
-    while i < 64 {
+    for i in 0..64 {
         let w = word(s, i * 4);
         places[i] = w.n;
-        i += 1;
     }
     places
 }
@@ -168,17 +166,15 @@ fn siger(s: &[u8]) -> Siger {
 fn copied(s: &[u8], n: usize) -> Sigers {
     let nobody = verification::no_siger();
     let mut at = [nobody; 48];
-    let mut i: usize = 0;
-    while i < 48 {
+    for i in 0..48 {
         if n <= i {
             return Sigers { count: i, at };
         }
         let from = i * 76;
         let x = siger(part(s, from, from + 76));
         at[i] = x;
-        i += 1;
     }
-    Sigers { count: i, at }
+    Sigers { count: 48, at }
 }
 
 pub(crate) fn sigers(s: &[u8], at: usize) -> Wired {

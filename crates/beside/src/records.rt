@@ -2,6 +2,8 @@
 use crate::{calls, read, text};
 use answer::Answer;
 use report::Tally;
+use std::io;
+use std::io::Write;
 
 #[derive(Clone, Copy)]
 pub struct Mode {
@@ -70,43 +72,66 @@ fn put_state(out: &mut [u8], at: usize, asked: bool, state: &[u8], kept: usize) 
 }
 
 // The lines for an answer.
-fn tell(mut run: Run, mark: u16, x: Answer, state: &[u8], out: &mut [u8]) -> Run {
+fn tell<W: Write>(
+    output: &mut W,
+    mut run: Run,
+    mark: u16,
+    x: Answer,
+    state: &[u8],
+    out: &mut [u8],
+) -> io::Result<Run> {
     let before = run.tally;
     let told = report::tell(before, mark, x, out, 0);
     let used = put_state(out, told.at, run.mode.states, state, run.kept);
-    text::write(out, used);
+    text::write(output, out, used)?;
     let tally = told.tally;
     run.tally = tally;
-    run
+    Ok(run)
 }
 
 // s is the record with its mark and length; of a long body the first bytes that decide.
-fn record(mut run: Run, s: &[u8], state: &mut [u8], out: &mut [u8]) -> Run {
+fn record<W: Write>(
+    output: &mut W,
+    mut run: Run,
+    s: &[u8],
+    state: &mut [u8],
+    out: &mut [u8],
+) -> io::Result<Run> {
     let folds = run.mode.fold;
     let mark = read::mark(s);
     let body = read::part(s, 4, s.len());
     let x = judge(folds, state, &mut run.kept, mark, body);
-    tell(run, mark, x, state, out)
+    tell(output, run, mark, x, state, out)
 }
 
 // "Fewer than 4 bytes left .., or a body past the end, is 1 and ends the input"
-pub(crate) fn cut(run: Run, state: &[u8], out: &mut [u8]) -> Run {
+pub(crate) fn cut<W: Write>(
+    output: &mut W,
+    run: Run,
+    state: &[u8],
+    out: &mut [u8],
+) -> io::Result<Run> {
     if run.mode.calls {
-        calls::answer(b"", out);
-        return run;
+        calls::answer(output, b"", out)?;
+        return Ok(run);
     }
     let x = answer::refuse(1, 0, 0);
-    tell(run, 0, x, state, out)
+    tell(output, run, 0, x, state, out)
 }
 
 // The last line; a run of calls has none.
-pub(crate) fn finish(run: Run, state: &[u8], out: &mut [u8]) {
+pub(crate) fn finish<W: Write>(
+    output: &mut W,
+    run: Run,
+    state: &[u8],
+    out: &mut [u8],
+) -> io::Result<()> {
     if run.mode.calls {
-        return;
+        return Ok(());
     }
     let tally = run.tally;
     let used = report::tell_end(tally, state, run.kept, out, 0);
-    text::write(out, used);
+    text::write(output, out, used)
 }
 
 // No mode takes more than two letters.
@@ -115,23 +140,35 @@ fn has(s: &[u8], letter: u8) -> bool {
 }
 
 // A record with mark 0 in a mixed input: the letters of its body are the flags for what follows, with an empty holder.
-fn again(run: Run, s: &[u8], state: &[u8], out: &mut [u8]) -> Run {
-    finish(run, state, out);
-    begin(Mode {
+fn again<W: Write>(
+    output: &mut W,
+    run: Run,
+    s: &[u8],
+    state: &[u8],
+    out: &mut [u8],
+) -> io::Result<Run> {
+    finish(output, run, state, out)?;
+    Ok(begin(Mode {
         states: has(s, b's'),
         fold: has(s, b'f'),
         calls: has(s, b'c'),
         mixed: true,
-    })
+    }))
 }
 
-pub(crate) fn one(run: Run, s: &[u8], state: &mut [u8], out: &mut [u8]) -> Run {
+pub(crate) fn one<W: Write>(
+    output: &mut W,
+    run: Run,
+    s: &[u8],
+    state: &mut [u8],
+    out: &mut [u8],
+) -> io::Result<Run> {
     if run.mode.mixed && read::mark(s) == 0 {
-        return again(run, s, state, out);
+        return again(output, run, s, state, out);
     }
     if run.mode.calls {
-        calls::answer(s, out);
-        return run;
+        calls::answer(output, s, out)?;
+        return Ok(run);
     }
-    record(run, s, state, out)
+    record(output, run, s, state, out)
 }

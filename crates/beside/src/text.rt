@@ -1,9 +1,13 @@
 // Text into a lent buffer: each function writes from a place on and gives the place behind. What has no room is dropped.
+ghost use Rattle.std.specs.Prelude.{◌<◌, ◌≤◌};
+
 use crate::read;
 use answer::Answer;
 use item::Item;
 use items::Items;
 use number::Number;
+use std::io;
+use std::io::Write;
 
 fn put(out: &mut [u8], at: usize, b: u8) -> usize {
     if at < out.len() {
@@ -15,10 +19,8 @@ fn put(out: &mut [u8], at: usize, b: u8) -> usize {
 
 pub(crate) fn put_all(out: &mut [u8], at: usize, src: &[u8]) -> usize {
     let mut p = at;
-    let mut i: usize = 0;
-    while i < src.len() {
-        p = put(out, p, src[i]);
-        i += 1;
+    for b in src {
+        p = put(out, p, *b);
     }
     p
 }
@@ -27,10 +29,31 @@ fn wide(n: u8) -> u64 {
     n as u64
 }
 
+// A digit: 0 to 9, then a to f.
+fn glyph(d: u8) -> u8 {
+    b"0123456789abcdef"[(d % 16) as usize]
+}
+
+// A number in base 10 or 16, with zeros in front up to a width.
+fn put_number(out: &mut [u8], at: usize, n: u64, base: u64, width: usize) -> usize
+    requires above_one { 1 < base }
+    requires to_sixteen { base ≤ 16 }
+{
+    let mut digits = [0u8; 20];
+    let mut rest = n;
+    for i in 0..20 {
+        let first = 19 - i;
+        digits[first] = glyph((rest % base) as u8);
+        rest /= base;
+        if rest == 0 && width <= i + 1 {
+            return put_all(out, at, &digits[first..]);
+        }
+    }
+    put_all(out, at, &digits)
+}
+
 fn put_word(out: &mut [u8], at: usize, n: u64, width: usize) -> usize {
-    let mut digits = [0u8; 16];
-    let k = io::hex(n, width, &mut digits);
-    put_all(out, at, &digits[..k])
+    put_number(out, at, n, 16, width)
 }
 
 // Two digits; where `bare`, without leading zeros.
@@ -48,12 +71,9 @@ fn put_byte(out: &mut [u8], at: usize, bare: bool, b: u8) -> usize {
 fn put_hex(out: &mut [u8], at: usize, src: &[u8], short: bool) -> usize {
     let mut p = at;
     let mut bare = short;
-    let mut i: usize = 0;
-    while i < src.len() {
-        let b = src[i];
-        p = put_byte(out, p, bare, b);
-        bare = bare && b == 0;
-        i += 1;
+    for b in src {
+        p = put_byte(out, p, bare, *b);
+        bare = bare && *b == 0;
     }
     p
 }
@@ -65,9 +85,7 @@ pub(crate) fn put_bytes(out: &mut [u8], at: usize, src: &[u8]) -> usize {
 }
 
 pub(crate) fn put_decimal(out: &mut [u8], at: usize, n: u64, behind: u8) -> usize {
-    let mut digits = [0u8; 20];
-    let k = io::decimal(n, &mut digits);
-    let p = put_all(out, at, &digits[..k]);
+    let p = put_number(out, at, n, 10, 1);
     put(out, p, behind)
 }
 
@@ -107,14 +125,11 @@ fn after(i: usize, n: usize) -> u8 {
 
 fn put_each(out: &mut [u8], at: usize, items: [Item; 16], n: usize) -> usize {
     let mut p = at;
-    let mut i: usize = 0;
-    while i < 16 {
+    for i in 0..16 {
         if n <= i {
             return p;
         }
-        let x = items[i];
-        i += 1;
-        p = put_item(out, p, x, after(i, n));
+        p = put_item(out, p, items[i], after(i + 1, n));
     }
     p
 }
@@ -128,6 +143,6 @@ pub(crate) fn put_items(out: &mut [u8], at: usize, l: Items) -> usize {
     put_each(out, at, items, l.count)
 }
 
-pub(crate) fn write(out: &[u8], used: usize) {
-    stream::write_all(read::part(out, 0, used));
+pub(crate) fn write<W: Write>(output: &mut W, out: &[u8], used: usize) -> io::Result<()> {
+    stream::write_all(output, read::part(out, 0, used))
 }

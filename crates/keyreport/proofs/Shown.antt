@@ -1,19 +1,9 @@
--- The program's step is the report's. The input cannot be named in a contract, so it is named here: let s be the input from the
--- record's first byte on, and let the window show its first bytes. Then the line that the program writes for the record in the
--- window, the tally and the state after it are those of s's report. Assumes nothing.
+-- The program's step is the report's. Let s be the input from the record's first byte on, and let the window show its first bytes.
+-- Then the line that the program writes for the record in the window, the tally and the state after it are those of s's report.
+-- Runs says so of a whole run. Assumes nothing.
 --     step-shown                   the record in the window, for a holder
 --     answer-shown, state-shown    the call on the state's bytes, beside the holder's; cut-shown: where the input ends
-use mathlib.Core.Path.{◌≡◌, refl, sym, ap, ◌∙◌}
-use mathlib.Core.List.{List, [], ◌++◌}
-use mathlib.Core.Logic.{inl, inr}
-use mathlib.Core.Bool.{Bool, true, false}
-use Prim.Native.Nat.{ℕ, suc, ◌+◌, ◌-◌, ◌≤◌, ◌<◌}
-use native.Mathlib.Nat.{add-zero}
-use native.Mathlib.Omega.{arith}
-use lib.Dec.{leb}
-use lib.ListN.{length, take, drop, get_or, length-drop}
-use lib.Seq.{get_or-drop, get_or-take, drop-drop}
-use borrow.Author.Tests.{le-leb, leb-false}
+use Rattle.std.proofs.Common.{◌≡◌, refl, sym, ap, ◌∙◌, List, [], ◌++◌, inl, inr, Bool, true, false, ℕ, suc, ◌+◌, ◌-◌, ◌≤◌, ◌<◌, add-zero, arith, leb, length, take, drop, get_or, length-drop, get_or-drop, get_or-take, drop-drop, le-leb, leb-false}
 use Rattle.state.specs.declared.Holder.{Holder}
 use Rattle.empty.specs.Empty.{nothing}
 use Rattle.layout.specs.Records.{mark_of, body_length}

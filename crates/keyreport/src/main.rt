@@ -2,13 +2,20 @@
 // stays the bytes that it is saved as.
 #![tactic(auto)]
 
-ghost use Rattle.std.specs.Prelude.{◌≡◌, ◌+◌, ◌≤◌, length};
-ghost use Rattle.in_place.specs.Calls.{body_offered_in};
-ghost use Rattle.keyreport.specs.Run.{mark_at, body_at, Fits};
+ghost use Rattle.std.specs.Prelude.{◌≡◌, ◌+◌, ◌≤◌, [], ◌++◌, length, take, OnOk};
+ghost use Rattle.std.specs.Io.KnownBytes.{Appends};
+ghost use Rattle.canonical.specs.Bytes.{Bytes};
+ghost use Rattle.found.specs.Kept.{kept_in};
+ghost use Rattle.report.specs.Report.{last_line};
+ghost use Rattle.in_place.specs.Calls.{offered_in, body_offered_in};
+ghost use Rattle.keyreport.specs.Run.{mark_at, body_at, Fits, Flushed, cut_lines, Finished, Ready, Reports};
 
 use answer::Answer;
 use cursor::Num16;
 use report::Tally;
+use std::io::{Eprint, ErrorKind, Read, Write};
+use std::process::ExitCode;
+use std::{fmt, io};
 use stream::{Next, Place, Span};
 
 // The window holds the longest good record, 10,089 bytes, and more.
@@ -19,26 +26,43 @@ const OUT: usize = 2048;
 // "The longest KS 2,281", with its mark and length.
 const STATE: usize = 2285;
 
+// Why a report has no last line.
+#[derive(Clone, Copy)]
+enum Failure {
+    Input(io::Error),
+    Output(io::Error),
+}
+
+impl fmt::Display for Failure {
+    fn fmt<W: fmt::Write>(&self, f: &mut fmt::Formatter<W>) -> fmt::Result {
+        match self {
+            Failure::Input(e) => write!(f, "standard input: {e}"),
+            Failure::Output(e) => write!(f, "standard output: {e}"),
+        }
+    }
+}
+
 // Where the next line begins, or a write that failed.
 #[derive(Clone, Copy)]
 enum Room {
     From(usize),
-    Failed,
+    Failed(io::Error),
 }
 
 // Where the longest line would not fit behind the first `at` bytes of `out`, those are written.
-fn make_room(out: &[u8], at: usize) -> Room
+fn make_room<W: Write>(output: &mut W, out: &[u8], at: usize) -> Room
     requires at_in_bounds { at ≤ length out.now }
     requires in_bounds { 111 ≤ length out.now }
-    ensures { Fits (length out.now) result }
+    ensures room { Fits (length out.now) result }
+    ensures bytes { Flushed (W.contents output.old) (W.contents output.new) (take at out.now) out.now result }
 {
     if lines::LONGEST <= out.len() - at {
         return Room::From(at);
     }
-    if stream::write_all(&out[..at]) {
-        return Room::From(0);
+    match stream::write_all(output, &out[..at]) {
+        Ok(()) => Room::From(0),
+        Err(e) => Room::Failed(e),
     }
-    Room::Failed
 }
 
 fn mark_at(window: &[u8], place: Place) -> u16
@@ -59,88 +83,205 @@ fn offer(state: &mut [u8], used: &mut usize, mark: u16, window: &[u8], place: Pl
     ensures value { result ≡ (body_offered_in state.old used.old mark (body_at window.now place)).answer }
     ensures state_after { state.new ≡ (body_offered_in state.old used.old mark (body_at window.now place)).bytes }
     ensures used_after { used.new ≡ (body_offered_in state.old used.old mark (body_at window.now place)).used }
+    ensures body_bytes { Bytes (body_at window.now place) }
 {
     let body = place.from + 4;
     let to = place.to;
     in_place::offer_body(state, used, mark, &window[body..to])
 }
 
-fn end(t: Tally, state: &[u8], used: usize, out: &mut [u8], at: usize)
+fn end<W: Write>(
+    output: &mut W,
+    t: Tally,
+    state: &[u8],
+    used: usize,
+    out: &mut [u8],
+    at: usize,
+) -> Result<(), Failure>
     requires { at + 111 ≤ length out.old }
+    ensures { OnOk result (Appends (W.contents output.old) (W.contents output.new) (take at out.old ++ last_line t (kept_in state.now used).holder)) }
 {
     let behind = report::tell_end(t, state, used, out, at);
-    stream::write_all(&out[..behind]);
+    stream::write_all(output, &out[..behind]).map_err(Failure::Output)
 }
 
 // Bytes that are no record get what no bytes get: "A one-record call on no bytes answers 1 too."
-fn cut(t: Tally, state: &mut [u8], used: &mut usize, out: &mut [u8], at: usize)
+fn cut<W: Write>(
+    output: &mut W,
+    t: Tally,
+    state: &mut [u8],
+    used: &mut usize,
+    out: &mut [u8],
+    at: usize,
+) -> Result<(), Failure>
     requires { at + 111 ≤ length out.old }
+    ensures { OnOk result (Appends (W.contents output.old) (W.contents output.new) (take at out.old ++ cut_lines t (offered_in state.old used.old []))) }
 {
     let answer = in_place::offer(state, used, b"");
     let last = report::tell(t, 0, answer, out, at);
     let tally = last.tally;
-    let room = make_room(out, last.at);
-    let Room::From(behind) = room else {
-        return;
-    };
-    let n = *used;
-    end(tally, state, n, out, behind)
+    match make_room(output, out, last.at) {
+        Room::From(behind) => {
+            let n = *used;
+            end(output, tally, state, n, out, behind)
+        }
+        Room::Failed(e) => Err(Failure::Output(e)),
+    }
 }
 
 // No further record: the input ended, inside a record or behind one, or a read failed. Then the lines so far are written, and no
-// last one.
-fn finish(t: Tally, state: &mut [u8], used: &mut usize, next: Next, out: &mut [u8], at: usize)
+// last one; that the read failed is said, whatever becomes of the lines.
+fn finish<W: Write>(
+    output: &mut W,
+    t: Tally,
+    state: &mut [u8],
+    used: &mut usize,
+    next: Next,
+    out: &mut [u8],
+    at: usize,
+) -> Result<(), Failure>
     requires { at + 111 ≤ length out.old }
+    ensures { OnOk result (Finished (W.contents output.old) (W.contents output.new) (take at out.old) t state.old used.old next) }
 {
     match next {
-        Next::Cut => cut(t, state, used, out, at),
+        Next::Cut => cut(output, t, state, used, out, at),
         Next::Ended => {
             let n = *used;
-            end(t, state, n, out, at)
+            end(output, t, state, n, out, at)
         }
-        Next::Record(_) => {}
-        Next::Failed => {
-            stream::write_all(&out[..at]);
+        Next::Record(_) => Ok(()),
+        Next::Failed(e) => {
+            let _ = stream::write_all(output, &out[..at]);
+            Err(Failure::Input(e))
         }
     }
 }
 
-// A proved loop has to end, and nothing says that the input does. So the records are counted down from a number that no run uses up.
-fn run(state: &mut [u8], used: &mut usize, window: &mut [u8], out: &mut [u8])
+// A proved loop has to end, and nothing says that the input does. So the records are counted, up to a number that no run reaches.
+fn run<R: Read, W: Write>(
+    input: &mut R,
+    output: &mut W,
+    state: &mut [u8],
+    used: &mut usize,
+    window: &mut [u8],
+    out: &mut [u8],
+) -> Result<(), Failure>
     requires { 111 ≤ length out.old }
+    ensures { Ready used.old state.old window.old → OnOk result (Reports (R.remaining input.old) (W.contents output.old) (W.contents output.new)) }
 {
     let mut t = report::begin();
     let mut span = Span { from: 0, to: 0 };
     let mut at: usize = 0;
-    let mut turns = u64::MAX;
-    while 0 < turns {
-        turns -= 1;
-        let next = stream::read_next(window, span);
+    for _ in 0..u64::MAX {
+        let next = stream::read_next(input, window, span);
         let Next::Record(place) = next else {
-            finish(t, state, used, next, out, at);
-            return;
+            return finish(output, t, state, used, next, out, at);
         };
         let mark = mark_at(window, place);
         let answer = offer(state, used, mark, window, place);
         let last = report::tell(t, mark, answer, out, at);
-        let room = make_room(out, last.at);
-        let Room::From(behind) = room else {
-            return;
-        };
-        let tally = last.tally;
-        t = tally;
+        match make_room(output, out, last.at) {
+            Room::From(behind) => at = behind,
+            Room::Failed(e) => return Err(Failure::Output(e)),
+        }
+        t = last.tally;
         span = Span {
             from: place.to,
             to: place.end,
         };
-        at = behind;
     }
+    Err(Failure::Input(io::Error::from(ErrorKind::TimedOut)))
 }
 
-fn main() {
+// On its own, for its buffers: a run that ends well does not pay for them.
+#[cold]
+#[inline(never)]
+fn say(rt: &impl Eprint, e: &Failure) {
+    let _ = rt.eprintln(e);
+}
+
+fn main(rt: HostRuntime) -> ExitCode {
     let mut state = [0u8; STATE];
     let mut used: usize = 0;
     let mut window = [0u8; WINDOW];
     let mut out = [0u8; OUT];
-    run(&mut state, &mut used, &mut window, &mut out);
+    let mut input = rt.stdin();
+    let mut output = rt.stdout();
+    match run(
+        &mut input,
+        &mut output,
+        &mut state,
+        &mut used,
+        &mut window,
+        &mut out,
+    ) {
+        Ok(()) => ExitCode::SUCCESS,
+        Err(e) => {
+            say(&rt, &e);
+            ExitCode::FAILURE
+        }
+    }
+}
+
+#[cfg(test)]
+mod tests {
+    use super::*;
+    use std::alloc::Global;
+
+    // Fails where its bytes end, if it is `broken`.
+    #[derive(Drop)]
+    struct Source<'a> {
+        left: &'a [u8],
+        broken: bool,
+    }
+
+    impl Read for Source<'_> {
+        fn read(&mut self, buf: &mut [u8]) -> io::Result<usize> {
+            if self.left.is_empty() && self.broken {
+                return Err(io::Error::from(ErrorKind::BrokenPipe));
+            }
+            self.left.read(buf)
+        }
+    }
+
+    fn reported(alloc: Global, mut input: Source<'_>) -> (Vec<u8>, Result<(), Failure>) {
+        let mut output = Vec::new(alloc);
+        let mut state = [0u8; STATE];
+        let mut used: usize = 0;
+        let mut window = [0u8; WINDOW];
+        let mut out = [0u8; OUT];
+        let ended = run(
+            &mut input,
+            &mut output,
+            &mut state,
+            &mut used,
+            &mut window,
+            &mut out,
+        );
+        (output, ended)
+    }
+
+    // A record with a mark that is none: a line, and the last one.
+    #[test]
+    fn ends_a_report(rt: HostRuntime) {
+        let input = Source {
+            left: b"XX\x00\x00",
+            broken: false,
+        };
+        let (output, ended) = reported(rt.alloc(), input);
+        assert!(rt; ended.is_ok());
+        assert_eq!(rt; output.as_slice(), b"1 ?? 2 0 0\nend 0 1 -\n".as_slice());
+    }
+
+    // The same, where the next read fails.
+    #[test]
+    fn ends_no_report_of_a_failed_read(rt: HostRuntime) {
+        let input = Source {
+            left: b"XX\x00\x00",
+            broken: true,
+        };
+        let (output, ended) = reported(rt.alloc(), input);
+        assert!(rt; matches!(ended, Err(Failure::Input(_))));
+        assert_eq!(rt; output.as_slice(), b"1 ?? 2 0 0\n".as_slice());
+    }
 }

@@ -1,5 +1,5 @@
--- What is promised of the window that standard input is read through. No contract can say which bytes a read brings; what is
--- stated is where they stand, that a record is as long as its length says, and that bytes that are read and not used stay.
+-- What is promised of the window that an input is read through, whatever the input is: where the bytes stand that a read brings,
+-- that a record is as long as its length says, and that bytes that are read and not used stay. Which bytes they are is in Left.
 use Rattle.std.specs.Prelude.{ℕ, ◌+◌, ◌-◌, ◌*◌, ◌≤◌, ◌≡◌, List, leb, length, take, drop, get_or, cond}
 use Rattle.stream.specs.declared.Span.{Span}
 use Rattle.stream.specs.declared.Place.{Place}
@@ -26,7 +26,7 @@ Stay n before from after now = (k : ℕ) → k ≤ n → take k (drop now after)
 abbrev pub Reached : ℕ → ℕ → Input → Type 0
 Reached to end (I.To n) = (to ≤ n) × (n ≤ end)
 Reached to end I.Ended = Unit {0}
-Reached to end I.Failed = Unit {0}
+Reached to end (I.Failed e) = Unit {0}
 
 -- the bytes of a span, and more behind them
 pub record Longer (before : List ℕ) (old : Span) (after : List ℕ) (s : Span) : Type 0 where
@@ -37,7 +37,7 @@ pub record Longer (before : List ℕ) (old : Span) (after : List ℕ) (s : Span)
 
 abbrev pub Holds : List ℕ → Span → List ℕ → Held → Type 0
 Holds before old after (H.Of s) = Longer before old after s
-Holds before old after H.Failed = Unit {0}
+Holds before old after (H.Failed e) = Unit {0}
 
 -- a record at a place of the window: as much of it as is kept, with the unused bytes, in their order, as its first ones and
 -- behind it
@@ -53,11 +53,11 @@ abbrev pub Found : List ℕ → Span → List ℕ → Next → Type 0
 Found before old after (N.Record p) = Stands before old after p
 Found before old after N.Cut = Unit {0}
 Found before old after N.Ended = old.to ≡ old.from
-Found before old after N.Failed = Unit {0}
+Found before old after (N.Failed e) = Unit {0}
 
 -- no record, and not the input's good end
 abbrev pub IsCut : Next → Type 0
 IsCut (N.Record p) = ⊥
 IsCut N.Cut = Unit {0}
 IsCut N.Ended = ⊥
-IsCut N.Failed = Unit {0}
+IsCut (N.Failed e) = Unit {0}

@@ -1,10 +1,14 @@
-// Standard input, record by record, through one window of bytes, and standard output: input of any length in bounded memory.
+// An input, record by record, through one window of bytes, and an output: input of any length in bounded memory. The input is
+// whatever reads and the output whatever writes; a program hands over its standard input and its standard output.
 #![tactic(auto)]
 
-ghost use Rattle.std.specs.Prelude.{◌≡◌, true, ◌+◌, ◌-◌, ◌≤◌, ◌<◌, length, take, drop};
+ghost use Rattle.std.specs.Prelude.{◌≡◌, ℕ, ◌+◌, ◌-◌, ◌≤◌, ◌<◌, min, IsOk, OnOk, IfSome, length, take, drop};
+ghost use Rattle.std.specs.Io.KnownBytes.{Appends};
 ghost use Rattle.stream.specs.Window.{size_of, Stay, Reached, Longer, Holds, Stands, IsCut, Found};
+ghost use Rattle.stream.specs.Left.{left_of, Stays, stopped_at, Brought, Filled, Skipped, HoldsLeft, Gives, Wrote, unfinished_as};
 
-use cursor::Num16;
+use std::io;
+use std::io::{Error, ErrorKind, Read, Write};
 
 // A record's mark and length, and the bytes that decide: "a body past the longest legal one is decided by its first bytes", one
 // more than the longest has. Crate decoded shows, as `first-bytes`, that they decide.
@@ -27,121 +31,123 @@ pub struct Place {
 }
 
 // A record; bytes that are none, where the input ends; no byte, where it ends; or a read that failed, which is not the end of the
-// input: standard error says why. It has failed too where the window is too short or the span is none.
+// input, and why. It has failed too where the window is too short or the span is none.
 #[derive(Clone, Copy)]
 pub enum Next {
     Record(Place),
     Cut,
     Ended,
-    Failed,
+    Failed(Error),
 }
 
-// What reading did: there are bytes up to a place, the input has ended, or a read failed.
+// What a read did: there are bytes up to a place, the input has ended, or the read failed. A write does the same: the bytes up to a
+// place are written, the output takes no more, or the write failed.
 #[derive(Clone, Copy)]
 enum Input {
     To(usize),
     Ended,
-    Failed,
+    Failed(Error),
 }
 
 #[derive(Clone, Copy)]
 enum Held {
     Of(Span),
-    Failed,
+    Failed(Error),
 }
 
 // A call that a signal interrupted is made again.
-fn failed(what: &[u8], to: usize, end: usize) -> Input
+fn failed(e: Error, to: usize, end: usize) -> Input
     requires { to ≤ end }
-    ensures { Reached to end result }
+    ensures reached { Reached to end result }
+    ensures stays { Stays to result }
 {
-    if os::errno() == libc::EINTR {
+    if e.kind() == ErrorKind::Interrupted {
         return Input::To(to);
     }
-    os::fail(what);
-    Input::Failed
+    Input::Failed(e)
+}
+
+// A proved loop has to end, and nothing says that a signal does not interrupt every call: so the calls are counted, up to a number
+// that no run reaches.
+fn too_often() -> Error {
+    Error::new(ErrorKind::TimedOut, "interrupted at every call")
 }
 
 // One read into the window's bytes from `to` to `end`.
-fn read_some(window: &mut [u8], to: usize, end: usize) -> Input
+fn read_some<R: Read>(input: &mut R, window: &mut [u8], to: usize, end: usize) -> Input
     requires { (to ≤ end) × (end ≤ length window.old) }
     ensures reached { Reached to end result }
     ensures window_unchanged { take to window.new ≡ take to window.old }
+    ensures bytes { Brought (R.remaining input.old) (R.remaining input.new) to end window.new result }
 {
-    let part = &mut window[to..end];
-    let got = libc::read(libc::STDIN_FILENO, part);
-    if got < 0 {
-        return failed(b"standard input", to, end);
+    match input.read(&mut window[to..end]) {
+        Ok(0) => Input::Ended,
+        Ok(n) => Input::To(to + n),
+        Err(e) => failed(e, to, end),
     }
-    let n = io::count(got, part);
-    if n == 0 {
-        return Input::Ended;
-    }
-    Input::To(to + n)
 }
 
 // Where the input ended, the bytes up to `to` are all.
 fn stopped(x: Input, to: usize, end: usize) -> Input
     requires { to ≤ end }
-    ensures { Reached to end result }
+    ensures reached { Reached to end result }
+    ensures value { result ≡ stopped_at to x }
 {
     match x {
         Input::To(_) => Input::To(to),
         Input::Ended => Input::To(to),
-        Input::Failed => Input::Failed,
+        Input::Failed(e) => Input::Failed(e),
     }
 }
 
-// Reads until there are bytes up to `want`, or the input ends. A proved loop has to end, and nothing says that a signal does not
-// interrupt every read: so turns are counted, down from a number that no run uses up.
-fn fill(window: &mut [u8], have: usize, want: usize) -> Input
+// Reads until there are bytes up to `want`, or the input ends.
+fn fill<R: Read>(input: &mut R, window: &mut [u8], have: usize, want: usize) -> Input
     requires { have ≤ length window.old }
     ensures reached { Reached have (length window.old) result }
     ensures window_unchanged { take have window.new ≡ take have window.old }
+    ensures bytes { Filled (R.remaining input.old) (R.remaining input.new) have want window.new result }
 {
     let end = window.len();
     let mut to = have;
-    let mut turns = u64::MAX;
-    while to < want {
-        if turns == 0 {
-            return Input::Failed;
+    for _ in 0..u64::MAX {
+        if want <= to {
+            return Input::To(to);
         }
-        turns -= 1;
-        let got = read_some(window, to, end);
+        let got = read_some(input, window, to, end);
         let Input::To(n) = got else {
             return stopped(got, to, end);
         };
         to = n;
     }
-    Input::To(to)
+    Input::Failed(too_often())
 }
 
 // Reads `count` bytes and forgets them: they go behind the first `from` bytes of the window.
-fn skip(window: &mut [u8], from: usize, count: usize) -> Input
+fn skip<R: Read>(input: &mut R, window: &mut [u8], from: usize, count: usize) -> Input
     requires { from ≤ length window.old }
-    ensures { take from window.new ≡ take from window.old }
+    ensures window_unchanged { take from window.new ≡ take from window.old }
+    ensures bytes { Skipped (R.remaining input.old) (R.remaining input.new) from (length window.old) count result }
 {
     let room = window.len() - from;
     let mut left = count;
-    let mut turns = u64::MAX;
-    while 0 < left {
-        if turns == 0 {
-            return Input::Failed;
+    for _ in 0..u64::MAX {
+        if left == 0 {
+            return Input::To(from);
         }
-        turns -= 1;
         let end = from + least(left, room);
-        let got = read_some(window, from, end);
+        let got = read_some(input, window, from, end);
         let Input::To(n) = got else {
             return got;
         };
-        left = left - (n - from);
+        left -= n - from;
     }
-    Input::To(from)
+    Input::Failed(too_often())
 }
 
 fn least(a: usize, b: usize) -> usize
     ensures upper_bound { result ≤ a }
     ensures upper_bound_2 { result ≤ b }
+    ensures value { result ≡ min a b }
 {
     if a < b { a } else { b }
 }
@@ -151,19 +157,17 @@ fn slide(window: &mut [u8], from: usize, to: usize)
     requires { (from ≤ to) × (to ≤ length window.old) }
     ensures { take (to - from) window.new ≡ take (to - from) (drop from window.old) }
 {
-    let n = to - from;
-    let mut i: usize = 0;
-    while i < n {
+    for i in 0..to - from {
         window[i] = window[from + i];
-        i += 1;
     }
 }
 
 // The unused bytes, read on until there are `want`, or all that is left of the input.
-fn hold(window: &mut [u8], span: Span, want: usize) -> Held
+fn hold<R: Read>(input: &mut R, window: &mut [u8], span: Span, want: usize) -> Held
     requires from_le_to { span.from ≤ span.to }
     requires to_in_bounds { span.to ≤ length window.old }
-    ensures { Holds window.old span window.new result }
+    ensures holds { Holds window.old span window.new result }
+    ensures bytes { HoldsLeft (left_of window.old span (R.remaining input.old)) (R.remaining input.new) want window.new result }
 {
     let from = span.from;
     let to = span.to;
@@ -172,11 +176,11 @@ fn hold(window: &mut [u8], span: Span, want: usize) -> Held
         return Held::Of(span);
     }
     slide(window, from, to);
-    let filled = fill(window, have, want);
-    let Input::To(n) = filled else {
-        return Held::Failed;
-    };
-    Held::Of(Span { from: 0, to: n })
+    match fill(input, window, have, want) {
+        Input::To(n) => Held::Of(Span { from: 0, to: n }),
+        Input::Ended => Held::Of(Span { from: 0, to: have }),
+        Input::Failed(e) => Held::Failed(e),
+    }
 }
 
 // How long the record is that stands at a place, by its length.
@@ -184,33 +188,31 @@ fn size_at(window: &[u8], at: usize) -> usize
     requires { at + 4 ≤ length window.now }
     ensures { result ≡ size_of (drop at window.now) }
 {
-    match cursor::read_u16(window, at + 2) {
-        Num16::Of(n, _) => 4 + n as usize,
-        Num16::Short => 4,
-    }
+    4 + (window[at + 2] as usize * 256 + window[at + 3] as usize)
 }
 
 // A record that the window cannot hold: the window is filled, the rest of the record stepped over.
-fn long(window: &mut [u8], head: Span, size: usize) -> Next
+fn long<R: Read>(input: &mut R, window: &mut [u8], head: Span, size: usize) -> Next
     requires in_bounds { 10090 < length window.old }
     requires from_le_to { head.from ≤ head.to }
     requires to_in_bounds { head.to ≤ length window.old }
     requires bound { 4 ≤ head.to - head.from }
     requires size_value { size ≡ size_of (drop head.from window.old) }
     requires window_len_bound { length window.old < size }
-    ensures { Found window.old head window.new result }
+    ensures found { Found window.old head window.new result }
+    ensures bytes { IfSome (left_of window.old head (R.remaining input.old)) (λ s. Gives s window.new (R.remaining input.new) result) }
 {
     let len = window.len();
-    let held = hold(window, head, len);
-    let Held::Of(full) = held else {
-        return Next::Failed;
+    let full = match hold(input, window, head, len) {
+        Held::Of(full) => full,
+        Held::Failed(e) => return Next::Failed(e),
     };
     let from = full.from;
     if full.to - from < len {
         return Next::Cut;
     }
     let kept = from + KEPT;
-    let over = skip(window, kept, size - len);
+    let over = skip(input, window, kept, size - len);
     let Input::To(_) = over else {
         return unfinished(over);
     };
@@ -223,27 +225,29 @@ fn long(window: &mut [u8], head: Span, size: usize) -> Next
 
 // The input ended inside a record, or a read failed.
 fn unfinished(x: Input) -> Next
-    ensures { IsCut result }
+    ensures cut { IsCut result }
+    ensures value { result ≡ unfinished_as x }
 {
     match x {
         Input::To(_) => Next::Cut,
         Input::Ended => Next::Cut,
-        Input::Failed => Next::Failed,
+        Input::Failed(e) => Next::Failed(e),
     }
 }
 
 // A record that the window can hold.
-fn short(window: &mut [u8], head: Span, size: usize) -> Next
+fn short<R: Read>(input: &mut R, window: &mut [u8], head: Span, size: usize) -> Next
     requires from_le_to { head.from ≤ head.to }
     requires to_in_bounds { head.to ≤ length window.old }
     requires bound { 4 ≤ head.to - head.from }
     requires size_value { size ≡ size_of (drop head.from window.old) }
     requires size_in_bounds { size ≤ length window.old }
-    ensures { Found window.old head window.new result }
+    ensures found { Found window.old head window.new result }
+    ensures bytes { IfSome (left_of window.old head (R.remaining input.old)) (λ s. Gives s window.new (R.remaining input.new) result) }
 {
-    let held = hold(window, head, size);
-    let Held::Of(whole) = held else {
-        return Next::Failed;
+    let whole = match hold(input, window, head, size) {
+        Held::Of(whole) => whole,
+        Held::Failed(e) => return Next::Failed(e),
     };
     let from = whole.from;
     let end = whole.to;
@@ -258,15 +262,16 @@ fn short(window: &mut [u8], head: Span, size: usize) -> Next
 }
 
 // The next record of the input, read from the window's unused bytes on.
-fn first(window: &mut [u8], span: Span) -> Next
+fn first<R: Read>(input: &mut R, window: &mut [u8], span: Span) -> Next
     requires in_bounds { 10090 < length window.old }
     requires from_le_to { span.from ≤ span.to }
     requires to_in_bounds { span.to ≤ length window.old }
-    ensures { Found window.old span window.new result }
+    ensures found { Found window.old span window.new result }
+    ensures bytes { IfSome (left_of window.old span (R.remaining input.old)) (λ s. Gives s window.new (R.remaining input.new) result) }
 {
-    let held = hold(window, span, 4);
-    let Held::Of(head) = held else {
-        return Next::Failed;
+    let head = match hold(input, window, span, 4) {
+        Held::Of(head) => head,
+        Held::Failed(e) => return Next::Failed(e),
     };
     let at = head.from;
     let n = head.to - at;
@@ -278,57 +283,172 @@ fn first(window: &mut [u8], span: Span) -> Next
     }
     let size = size_at(window, at);
     if window.len() < size {
-        return long(window, head, size);
+        return long(input, window, head, size);
     }
-    short(window, head, size)
+    short(input, window, head, size)
 }
 
-pub fn read_next(window: &mut [u8], span: Span) -> Next
-    ensures { Found window.old span window.new result }
+pub fn read_next<R: Read>(input: &mut R, window: &mut [u8], span: Span) -> Next
+    ensures found { Found window.old span window.new result }
+    ensures bytes { IfSome (left_of window.old span (R.remaining input.old)) (λ s. Gives s window.new (R.remaining input.new) result) }
 {
     let len = window.len();
-    if len <= KEPT {
-        return Next::Failed;
+    if len <= KEPT || len < span.to || span.to < span.from {
+        return Next::Failed(Error::from(ErrorKind::InvalidInput));
     }
-    if len < span.to {
-        return Next::Failed;
-    }
-    if span.to < span.from {
-        return Next::Failed;
-    }
-    first(window, span)
+    first(input, window, span)
 }
 
 // One write of the bytes from `done` on.
-fn write_some(out: &[u8], done: usize) -> Input
+fn write_some<W: Write>(output: &mut W, out: &[u8], done: usize) -> Input
     requires { done ≤ length out.now }
-    ensures { Reached done (length out.now) result }
+    ensures reached { Reached done (length out.now) result }
+    ensures bytes { Wrote (W.contents output.old) (W.contents output.new) done out.now result }
 {
-    let part = &out[done..];
-    let put = libc::write(libc::STDOUT_FILENO, part);
-    if put <= 0 {
-        return failed(b"standard output", done, out.len());
+    match output.write(&out[done..]) {
+        Ok(0) => Input::Ended,
+        Ok(n) => Input::To(done + n),
+        Err(e) => failed(e, done, out.len()),
     }
-    let n = io::count(put, part);
-    Input::To(done + n)
 }
 
-// Writes all, or says on standard error why not.
-pub fn write_all(out: &[u8]) -> bool
-    ensures { length out.now ≡ 0 → result ≡ true }
+// Writes all, or says why not.
+pub fn write_all<W: Write>(output: &mut W, out: &[u8]) -> io::Result<()>
+    ensures nothing { length out.now ≡ 0 → IsOk result }
+    ensures bytes { OnOk result (Appends (W.contents output.old) (W.contents output.new) out.now) }
 {
     let mut done: usize = 0;
-    let mut turns = u64::MAX;
-    while done < out.len() {
-        if turns == 0 {
-            return false;
+    for _ in 0..u64::MAX {
+        if out.len() <= done {
+            return Ok(());
         }
-        turns -= 1;
-        let put = write_some(out, done);
-        let Input::To(n) = put else {
-            return false;
-        };
-        done = n;
+        match write_some(output, out, done) {
+            Input::To(n) => done = n,
+            Input::Ended => return Err(Error::from(ErrorKind::WriteZero)),
+            Input::Failed(e) => return Err(e),
+        }
     }
-    true
+    Err(too_often())
+}
+
+#[cfg(test)]
+mod tests {
+    use super::*;
+    use std::test::Fail;
+
+    // Gives a byte a call, and is interrupted before each one. Where it `fails`, an error comes in place of the end.
+    #[derive(Drop)]
+    struct Drip<'a> {
+        left: &'a [u8],
+        interrupts: bool,
+        fails: bool,
+    }
+
+    impl Read for Drip<'_> {
+        fn read(&mut self, buf: &mut [u8]) -> io::Result<usize> {
+            self.interrupts = !self.interrupts;
+            if !self.interrupts {
+                return Err(Error::from(ErrorKind::Interrupted));
+            }
+            let Some((first, left)) = self.left.split_first() else {
+                if self.fails {
+                    return Err(Error::from(ErrorKind::BrokenPipe));
+                }
+                return Ok(0);
+            };
+            if buf.is_empty() {
+                return Ok(0);
+            }
+            buf[0] = *first;
+            self.left = left;
+            Ok(1)
+        }
+    }
+
+    // Takes a byte a call, and is interrupted before each one, until it is full.
+    #[derive(Drop)]
+    struct Cup {
+        bytes: [u8; 4],
+        full: usize,
+        interrupts: bool,
+    }
+
+    impl Write for Cup {
+        fn write(&mut self, buf: &[u8]) -> io::Result<usize> {
+            self.interrupts = !self.interrupts;
+            if !self.interrupts {
+                return Err(Error::from(ErrorKind::Interrupted));
+            }
+            if buf.is_empty() || self.bytes.len() <= self.full {
+                return Ok(0);
+            }
+            self.bytes[self.full] = buf[0];
+            self.full += 1;
+            Ok(1)
+        }
+
+        fn flush(&mut self) -> io::Result<()> {
+            Ok(())
+        }
+    }
+
+    // A record, and the first bytes of another one, where the input ends.
+    #[test]
+    fn reads_a_byte_at_a_time(rt: HostRuntime) {
+        let mut input = Drip {
+            left: b"RO\x00\x01xIC\x00",
+            interrupts: true,
+            fails: false,
+        };
+        let mut window = [0u8; 10240];
+        let Next::Record(p) = read_next(&mut input, &mut window, Span { from: 0, to: 0 }) else {
+            panic!(rt; "no record");
+        };
+        assert_eq!(rt; p.to - p.from, 5);
+        assert_eq!(rt; &window[p.from..p.to], b"RO\x00\x01x".as_slice());
+        let rest = Span {
+            from: p.to,
+            to: p.end,
+        };
+        let next = read_next(&mut input, &mut window, rest);
+        assert!(rt; matches!(next, Next::Cut));
+    }
+
+    // The same, where the read behind the first record fails.
+    #[test]
+    fn a_failed_read_is_no_end(rt: HostRuntime) {
+        let mut input = Drip {
+            left: b"RO\x00\x01x",
+            interrupts: true,
+            fails: true,
+        };
+        let mut window = [0u8; 10240];
+        let Next::Record(p) = read_next(&mut input, &mut window, Span { from: 0, to: 0 }) else {
+            panic!(rt; "no record");
+        };
+        let rest = Span {
+            from: p.to,
+            to: p.end,
+        };
+        let Next::Failed(e) = read_next(&mut input, &mut window, rest) else {
+            panic!(rt; "no failure");
+        };
+        assert_eq!(rt; e.kind(), ErrorKind::BrokenPipe);
+    }
+
+    #[test]
+    fn writes_a_byte_at_a_time(rt: HostRuntime) -> Result<(), Fail> {
+        let mut output = Cup {
+            bytes: [0; 4],
+            full: 0,
+            interrupts: true,
+        };
+        write_all(&mut output, b"abc")?;
+        assert_eq!(rt; &output.bytes[..3], b"abc".as_slice());
+        let Err(e) = write_all(&mut output, b"de") else {
+            panic!(rt; "five bytes in four");
+        };
+        assert_eq!(rt; e.kind(), ErrorKind::WriteZero);
+        Ok(())
+    }
 }
