@@ -10,10 +10,9 @@ pub returns-in_default : goal.returns-in_default
 returns-in_default c = let a = c.args in
     let held = c.in_buffer-held in
     let first = first-is a.input.now _ c.in_default.is c.first_record.ensures.result_value in
-    let facts = each_of (first_short_lem a.state.now a.used.now held.result held.ensures.0 held.ensures.1.0 held.ensures.1.1 a.input.now first c.instead.ensures) in record { value = facts.0; state_after = facts.1.0; used_after = facts.1.1 }
+    let facts = each_of (first_short_lem a.state.now a.used.now held.result held.ensures.result_value held.ensures.framed held.ensures.room a.input.now first c.instead.ensures) in record { value = facts.0; state_after = facts.1.0; used_after = facts.1.1 }
 
 pub returns : goal.returns
 returns c = let a = c.args in
-    let given = c.mark-1.given in
-    let first = first-is a.input.now _ given.1 c.first_record.ensures.result_value in
-    let facts = each_as (fold-first a.state.now a.used.now a.input.now given.0.0 given.0.1.0 first) (c.fold_body.ensures.value, c.fold_body.ensures.state_after, c.fold_body.ensures.used_after) in record { value = facts.0; state_after = facts.1.0; used_after = facts.1.1 }
+    let first = first-is a.input.now _ c.in-Of.is c.first_record.ensures.result_value in
+    let facts = each_as (fold-first a.state.now a.used.now a.input.now c.in-Of.mark c.in-Of.next first) (c.fold_body.ensures.value, (c.fold_body.ensures.state_after, c.fold_body.ensures.used_after)) in record { value = facts.0; state_after = facts.1.0; used_after = facts.1.1 }

@@ -19,4 +19,4 @@ offer_to-requires c = let a = c.args in
 pub returns : goal.returns
 returns c = let a = c.args in
     let held = c.in_buffer-held in
-    let facts = each_of (offer-body a.state.now a.used.now held.result held.ensures.0 held.ensures.1.0 held.ensures.1.1 a.body.now a.mark _ c.enough-end.ensures c.offer_to.ensures) in record { value = facts.0; state_after = facts.1.0; used_after = facts.1.1 }
+    let facts = each_of (offer-body a.state.now a.used.now held.result held.ensures.result_value held.ensures.framed held.ensures.room a.body.now a.mark _ c.enough-end.ensures c.offer_to.ensures) in record { value = facts.0; state_after = facts.1.0; used_after = facts.1.1 }

@@ -33,8 +33,7 @@ returns-in-DelegatedRotation c = let a = c.args in
 
 pub returns-in-Snapshot : goal.returns-in-Snapshot
 returns-in-Snapshot c = let a = c.args in
-    let m = c.m-in-Snapshot-1 in
-    read_left a.state.now a.used.now (content_judged nothing) a.mark a.s.now c.by_mark.ensures.result_value (R.TheVariants.Snapshot _) m.given.1 (c.take_in.ensures ∙ nothing-snapshot a.state.now a.used.now nothing.state (state_of a.s.now m.given.0.0))
+    read_left a.state.now a.used.now (content_judged nothing) a.mark a.s.now c.by_mark.ensures.result_value (R.TheVariants.Snapshot _) c.in-Snapshot.is (c.take_in.ensures ∙ nothing-snapshot a.state.now a.used.now nothing.state (state_of a.s.now c.in-Snapshot.m))
 
 pub returns-in-No : goal.returns-in-No
 returns-in-No c = let a = c.args in
