@@ -17,6 +17,7 @@ import sys
 
 TOKEN = re.compile(r"[^\s(){}.;,@\"«»`:/\[\]|*]+")
 DECLARED = re.compile(r"(?m)^(?:(?:abbrev|unfoldable|pub|private)\s+)*([^\s(){}:]+)(?: \{[^{}\n]*\})* :\s")
+INNER = re.compile(r"(?m)^ +(?:(?:abbrev|unfoldable|pub)\s+)*([a-z][^\s(){}:]*) :\s")
 FIELD = re.compile(r"(?m)^\s+(?:pub )?([^\s(){}:;]+) : ")
 RECORD = re.compile(r"(?m)^(?:pub )?(?:record|data) \S+(?:.|\n(?=\s)|\n(?=\n\s))*")
 # facts, which are spelled as types
@@ -46,12 +47,15 @@ def by_hand(path):
 
 
 def declared():
+    """Lemmas, also those inside a module or below a where; definitions; fields."""
     lemmas, words, fields = set(), set(), set()
     for path in texts():
         if not path.endswith(".antt") or by_hand(path):
             continue
         text = read(path)
         (words if "/specs/" in path else lemmas).update(DECLARED.findall(text))
+        if "/proofs/" in path:
+            lemmas.update(it for it in INNER.findall(text) if re.search("[-A-Z]", it[1:]))
         for one in RECORD.findall(text):
             fields.update(FIELD.findall(one))
     return lemmas, words, fields
@@ -99,8 +103,9 @@ def turn(text, defined, cited):
         it = m[0]
         if it in defined:
             return defined[it]
-        behind_dot = text[m.start() - 1 : m.start()] == "."
-        return cited.get(it, it) if not behind_dot or re.search("[-A-Z]", it) else it
+        # Behind a dot stands a lemma only where a module is named before it, and else a field or a step.
+        before = re.search(r"([^\s(){}.;,]*)\.$", text[max(0, m.start() - 80) : m.start()])
+        return cited.get(it, it) if not before or before[1][:1].isupper() else it
 
     return TOKEN.sub(new, text)
 

@@ -1,0 +1,6 @@
+use Rattle.device.proofs.Laws.{length_of}
+use borrow.Author.Rules.{rules}
+use Rattle.device.proofs.keystate_length.Goals as goal
+
+pub returns : goal.returns
+returns c = length_of _ _ c.length.ensures
