@@ -33,12 +33,12 @@ past x y ys e z = passed y ys (rw e at z)
 pub grouped : (xs ys : List Answer) → first_refusal (first_refusal xs ∷ ys) ≡ first_refusal (xs ++ ys)
 unfolding first_refusal
 grouped [] ys = refl
-grouped (x ∷ xs) ys = by-test (passes x) refl (grouped xs ys)
+grouped (x ∷ xs) ys = by_test (passes x) refl (grouped xs ys)
   where
-    by-test : (t : Bool) → passes x ≡ t → first_refusal (first_refusal xs ∷ ys) ≡ first_refusal (xs ++ ys)
+    by_test : (t : Bool) → passes x ≡ t → first_refusal (first_refusal xs ∷ ys) ≡ first_refusal (xs ++ ys)
         → first_refusal (pick t (first_refusal xs) x ∷ ys) ≡ pick t (first_refusal (xs ++ ys)) x
-    by-test true e ih = ih
-    by-test false e ih = rw e
+    by_test true e ih = ih
+    by_test false e ih = rw e
 
 -- what comes behind may be answered in another way
 pub tail_same : (xs ys zs : List Answer) → first_refusal ys ≡ first_refusal zs → first_refusal (xs ++ ys) ≡ first_refusal (xs ++ zs)
@@ -49,11 +49,11 @@ tail_same (x ∷ xs) ys zs e = ap (λ (r : Answer). pick (passes x) r x) (tail_s
 -- or only where the check before it passes
 pub then_same : (x : Answer) (xs ys : List Answer) → (passes x ≡ true → first_refusal xs ≡ first_refusal ys) → first_refusal (x ∷ xs) ≡ first_refusal (x ∷ ys)
 unfolding first_refusal
-then_same x xs ys f = by-test (passes x) f
+then_same x xs ys f = by_test (passes x) f
   where
-    by-test : (t : Bool) → (t ≡ true → first_refusal xs ≡ first_refusal ys) → pick t (first_refusal xs) x ≡ pick t (first_refusal ys) x
-    by-test true g = g refl
-    by-test false g = refl
+    by_test : (t : Bool) → (t ≡ true → first_refusal xs ≡ first_refusal ys) → pick t (first_refusal xs) x ≡ pick t (first_refusal ys) x
+    by_test true g = g refl
+    by_test false g = refl
 
 -- ---- answers that pass without details
 abbrev pub Clean : Answer → Type 0
@@ -62,11 +62,11 @@ Clean x = passes x ≡ true → x ≡ accepted
 pub clean_first : (xs : List Answer) → Clean (first_refusal xs)
 unfolding first_refusal
 clean_first [] p = refl
-clean_first (x ∷ xs) p = by-test (passes x) refl p (clean_first xs)
+clean_first (x ∷ xs) p = by_test (passes x) refl p (clean_first xs)
   where
-    by-test : (t : Bool) → passes x ≡ t → passes (pick t (first_refusal xs) x) ≡ true → Clean (first_refusal xs) → pick t (first_refusal xs) x ≡ accepted
-    by-test true e q ih = ih q
-    by-test false e q ih = clash (sym q ∙ e)
+    by_test : (t : Bool) → passes x ≡ t → passes (pick t (first_refusal xs) x) ≡ true → Clean (first_refusal xs) → pick t (first_refusal xs) x ≡ accepted
+    by_test true e q ih = ih q
+    by_test false e q ih = clash (sym q ∙ e)
 
 -- a refusal or nothing
 pub clean_unless : (good : Bool) (x : Answer) → passes x ≡ false → Clean (refuse_unless good x)
@@ -80,11 +80,11 @@ clean_if false x f p = refl
 -- the last check, where it passes cleanly, gives the answer either way
 pub last : (x y : Answer) → Clean y → x ≡ y → x ≡ first_refusal (y ∷ [])
 unfolding first_refusal
-last x y clean e = by-test (passes y) refl
+last x y clean e = by_test (passes y) refl
   where
-    by-test : (t : Bool) → passes y ≡ t → x ≡ pick t accepted y
-    by-test true p = e ∙ clean p
-    by-test false p = e
+    by_test : (t : Bool) → passes y ≡ t → x ≡ pick t accepted y
+    by_test true p = e ∙ clean p
+    by_test false p = e
 
 -- ---- the shape of fields
 pub fault_here : (n m : ℕ) (ms : List ℕ) → n ≡ m → (n ≡ 0 → ⊥) → n ≡ first_fault (m ∷ ms)
@@ -97,11 +97,11 @@ fault_past n m ms e z = rw (← e, eq-eqb n 0 z)
 
 pub fault_last : (n m : ℕ) → n ≡ m → n ≡ first_fault (m ∷ [])
 unfolding first_fault
-fault_last n m e = by-test (eqb m 0) refl
+fault_last n m e = by_test (eqb m 0) refl
   where
-    by-test : (t : Bool) → eqb m 0 ≡ t → n ≡ pick t 0 m
-    by-test true p = e ∙ eqb-true m 0 p
-    by-test false p = e
+    by_test : (t : Bool) → eqb m 0 ≡ t → n ≡ pick t 0 m
+    by_test true p = e ∙ eqb-true m 0 p
+    by_test false p = e
 
 -- three groups of checks in a row are all their checks in a row
 pub three_groups : (xs ys zs : List Answer) → first_refusal (first_refusal xs ∷ first_refusal ys ∷ first_refusal zs ∷ []) ≡ first_refusal (xs ++ (ys ++ zs))

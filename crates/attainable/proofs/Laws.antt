@@ -30,9 +30,9 @@ in_set keys k l =
     ∙ bit_set 16 (below keys (λ _. true)) k l ∙ sym (among-chosen keys (λ _. true) k)
 
 module _ (t : Threshold) (keys : ℕ) where
-  pub ill-shaped : (fault : ℕ) → fault ≡ shape_of t → (fault ≡ 0 → ⊥) → attained fault false ≡ attainable_by t keys
+  pub ill_shaped : (fault : ℕ) → fault ≡ shape_of t → (fault ≡ 0 → ⊥) → attained fault false ≡ attainable_by t keys
   unfolding attainable_by
-  ill-shaped fault e ne = rw (← e, ne_eqb fault 0 ne)
+  ill_shaped fault e ne = rw (← e, ne_eqb fault 0 ne)
 
   pub too_many : shape_of t ≡ 0 → 16 < keys → attained 4 false ≡ attainable_by t keys
   unfolding attainable_by

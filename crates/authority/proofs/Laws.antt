@@ -32,8 +32,8 @@ module _ (l : Items) (h : length l.at ≡ 16) where
   pub used-some : l.count < 16 → l.count ≡ length (listed l)
   used-some g = simp length-take (omega arith)
 
-  pub used-full : 16 ≤ l.count → 16 ≡ length (listed l)
-  used-full g = simp length-take (omega arith)
+  pub used_full : 16 ≤ l.count → 16 ≡ length (listed l)
+  used_full g = simp length-take (omega arith)
 
 -- ---- a judgement over bits is one over the list of their places
 module _ (which : ℕ) (t : Threshold) (set n : ℕ) (h : length t.weights ≡ 16) (e : n ≡ length (places_in set)) where
@@ -41,9 +41,9 @@ module _ (which : ℕ) (t : Threshold) (set n : ℕ) (h : length t.weights ≡ 1
   same-judged =
       rw e (judged-same (bit_at set) (among (places_in set)) (λ k l. sym (among-chosen 16 (bit_at set) k ∙ rw (lt-ltb k 16 l))) t (length (places_in set)) (omega arith))
 
-  pub quorum-met : Met ≡ judged t n (bit_at set) → accepted ≡ quorum which t (places_in set)
+  pub quorum_met : Met ≡ judged t n (bit_at set) → accepted ≡ quorum which t (places_in set)
   unfolding quorum
-  quorum-met m = rw (← m ∙ same-judged)
+  quorum_met m = rw (← m ∙ same-judged)
 
   pub quorum-short : (clause : ℕ) → Short clause ≡ judged t n (bit_at set) → refused which n clause ≡ quorum which t (places_in set)
   unfolding quorum
@@ -68,35 +68,35 @@ module _ (toad n : ℕ) (ps : List ℕ) (e : n ≡ length ps) where
       same true = refl
       same false = refl
 
-  pub receipts-few : n < toad → refused 32 n toad ≡ receipts toad ps
+  pub receipts_few : n < toad → refused 32 n toad ≡ receipts toad ps
   unfolding receipts
-  receipts-few h = rw (ne_eqb toad 0 (λ z. omega (arith, z, h)), lt-leb toad (length ps) (omega arith), e)
+  receipts_few h = rw (ne_eqb toad 0 (λ z. omega (arith, z, h)), lt-leb toad (length ps) (omega arith), e)
 
 -- ---- the three entries: counted once, then the sets are judged
 module _ (keys next : ℕ) (l : Sigers) (c : Counted) (e : c ≡ counted_of keys next (signatures l)) where
-  verified-is : places_in c.verified ≡ verified_places keys (signatures l)
-  verified-is = rw e (places-set (verified_at keys (signatures l)))
+  verified_is : places_in c.verified ≡ verified_places keys (signatures l)
+  verified_is = rw e (places-set (verified_at keys (signatures l)))
 
-  exposed-is : places_in c.exposed ≡ exposed_places keys next (signatures l)
-  exposed-is = rw e (places-set (exposed_at keys next (signatures l)))
+  exposed_is : places_in c.exposed ≡ exposed_places keys next (signatures l)
+  exposed_is = rw e (places-set (exposed_at keys next (signatures l)))
 
-  pub verifies-is : (a : Authority) → keys ≡ length (listed a.keys) → quorum 27 a.threshold (places_in c.verified) ≡ verifies a l
-  verifies-is a k = rw (verified-is, k)
+  pub verifies_is : (a : Authority) → keys ≡ length (listed a.keys) → quorum 27 a.threshold (places_in c.verified) ≡ verifies a l
+  verifies_is a k = rw (verified_is, k)
 
-  pub witnessed-is : (w : Witnessing) → keys ≡ length (listed w.witnesses) → receipts w.toad (places_in c.verified) ≡ witnessed w l
-  witnessed-is w k = rw (verified-is, k)
+  pub witnessed_is : (w : Witnessing) → keys ≡ length (listed w.witnesses) → receipts w.toad (places_in c.verified) ≡ witnessed w l
+  witnessed_is w k = rw (verified_is, k)
 
   pub opens-short : (o : Commitment) (a : Authority) (x : Answer) → keys ≡ length (listed a.keys) → x ≡ quorum 27 a.threshold (places_in c.verified)
       → (x.number ≡ 0 → ⊥) → x ≡ opens o a l
   unfolding opens
-  opens-short o a x k f ne = let g = f ∙ verifies-is a k in g ∙ sym (stopped (verifies a l) _ (λ z. ne (ap (λ (y : Answer). y.number) g ∙ z)))
+  opens-short o a x k f ne = let g = f ∙ verifies_is a k in g ∙ sym (stopped (verifies a l) _ (λ z. ne (ap (λ (y : Answer). y.number) g ∙ z)))
 
   pub opens-signed : (o : Commitment) (a : Authority) (x : Answer) → keys ≡ length (listed a.keys) → next ≡ length (listed o.next)
       → x ≡ quorum 27 a.threshold (places_in c.verified) → x.number ≡ 0 → quorum 28 o.threshold (places_in c.exposed) ≡ opens o a l
   unfolding opens
   opens-signed o a x k m f z =
-      let g = f ∙ verifies-is a k in
+      let g = f ∙ verifies_is a k in
       let y : Answer = exposed_by o.threshold (length (listed a.keys)) (length (listed o.next)) (signatures l) in
-      let h : quorum 28 o.threshold (places_in c.exposed) ≡ y = rw (exposed-is, k, m) in
+      let h : quorum 28 o.threshold (places_in c.exposed) ≡ y = rw (exposed_is, k, m) in
       let p : y ≡ first_refusal (y ∷ []) = last y y (clean_quorum 28 o.threshold _ refl) refl in
       h ∙ p ∙ sym (passed (verifies a l) (y ∷ []) (sym (ap (λ (b : Answer). b.number) g) ∙ z))

@@ -24,7 +24,7 @@ use Rattle.threshold.specs.Threshold as threshold
 use Rattle.format.specs.Parse.{Parse, got, bad, bind, byte_at, be_from, num_at}
 use Rattle.format.specs.Fields.{sn_at, flag_at}
 use Rattle.cursor.specs.Spans.{runs, span_at, list_of, many_of}
-use Rattle.cursor.proofs.Laws.{be_more, raw-got, list_length, many-got}
+use Rattle.cursor.proofs.Laws.{be_more, raw_got, list_length, many_got}
 use Rattle.field.specs.Field.{place_at, trait_place_at, items_place_at, config_place_at, byte_of, item_of, items_of, config_of}
 use Rattle.threshold_field.specs.declared.Marks.{Marks}
 use Rattle.threshold_field.specs.ThresholdField.{total_at, pass_at, simple_marks, weighted_marks, weighted_at, marks_as, marks_at, weight_of, no_weight, threshold_of}
@@ -58,8 +58,8 @@ ran_got P x a n e p = rw e at p
 
 -- ---- runs
 module _ (s : List ℕ) where
-  pub run-then : (a b c : ℕ) (xs ys : List ℕ) → Run s a b xs → Run s b c ys → Run s a c (xs ++ ys)
-  run-then a b c xs ys p q =
+  pub run_then : (a b c : ℕ) (xs ys : List ℕ) → Run s a b xs → Run s b c ys → Run s a c (xs ++ ys)
+  run_then a b c xs ys p q =
       let h = p.ends in
       let g = q.ends in
       record {
@@ -71,8 +71,8 @@ module _ (s : List ℕ) where
   run-same : (a b : ℕ) (xs ys : List ℕ) → ys ≡ xs → Run s a b xs → Run s a b ys
   run-same a b xs ys e p = rw e p
 
-  run-to : (a b c : ℕ) (xs : List ℕ) → c ≡ b → Run s a b xs → Run s a c xs
-  run-to a b c xs e p = rw e p
+  run_to : (a b c : ℕ) (xs : List ℕ) → c ≡ b → Run s a b xs → Run s a c xs
+  run_to a b c xs e p = rw e p
 
   pub run-taken : (a b : ℕ) (xs : List ℕ) → Run s a b xs → take (b - a) (drop a s) ≡ xs
   run-taken a b xs p =
@@ -95,13 +95,13 @@ module _ (s : List ℕ) where
   run-byte : (at : ℕ) → at + 1 ≤ length s → Run s at (at + 1) (get_or s at 0 ∷ [])
   run-byte at h = record { ends = refl; within = h; is = head_of 0 s at (omega arith) }
 
-  run-item : (at : ℕ) → at + 33 ≤ length s → Run s at (at + 33) (item_bytes (item_of s at))
+  run_item : (at : ℕ) → at + 33 ≤ length s → Run s at (at + 33) (item_bytes (item_of s at))
   unfolding item_bytes item_of
-  run-item at h =
+  run_item at h =
       let m : at + 1 + 32 ≤ length s = omega arith in
       let e : at + 33 ≡ at + 1 + 32 = omega arith in
-      rw (raw-got 32 s (at + 1) m, e)
-      (run-then at (at + 1) (at + 1 + 32) (get_or s at 0 ∷ []) (take 32 (drop (at + 1) s)) (run-byte at (omega arith)) (run-part (at + 1) 32 m))
+      rw (raw_got 32 s (at + 1) m, e)
+      (run_then at (at + 1) (at + 1 + 32) (get_or s at 0 ∷ []) (take 32 (drop (at + 1) s)) (run-byte at (omega arith)) (run-part (at + 1) 32 m))
 
   -- values w bytes apart
   module _ {A : Type 0} (g : A → List ℕ) (v : ℕ → A) (w : ℕ) (h : (p : ℕ) → p + w ≤ length s → Run s p (p + w) (g (v p))) where
@@ -111,7 +111,7 @@ module _ (s : List ℕ) where
     run-each (suc n) p l =
         let m : p + w + n * w ≤ length s = omega (arith, rw suc-mul at l) in
         let e : p + suc n * w ≡ p + w + n * w = rw suc-mul (omega arith) in
-        rw e (run-then p (p + w) (p + w + n * w) (g (v p)) _ (h p (omega arith)) (run-each n (p + w) m))
+        rw e (run_then p (p + w) (p + w + n * w) (g (v p)) _ (h p (omega arith)) (run-each n (p + w) m))
 
 run-bytes : (s : List ℕ) (n p : ℕ) → p + n * 1 ≤ length s → Run s p (p + n * 1) (list_of (byte_of s) 1 n p)
 run-bytes s n p h = rw each-byte at (run-each s (λ x. x ∷ []) (byte_of s) 1 (run-byte s) n p h)
@@ -140,11 +140,11 @@ module _ (s : List ℕ) (bytes : Bytes s) where
   run-number : (at w : ℕ) → at + w ≤ length s → Run s at (at + w) (be w (be_from 0 (take w (drop at s))))
   run-number at w h = rw (be_back at w h) (run-part s at w h)
 
-  run-weight : (at : ℕ) → at + 16 ≤ length s → Run s at (at + 16) (weight_bytes (weight_of s at))
+  run_weight : (at : ℕ) → at + 16 ≤ length s → Run s at (at + 16) (weight_bytes (weight_of s at))
   unfolding words_bytes weight_of
-  run-weight at h =
+  run_weight at h =
       let e : at + 16 ≡ at + 8 + 8 = omega arith in
-      rw e (run-then s at (at + 8) (at + 8 + 8) _ _ (run-number at 8 (omega arith)) (run-number (at + 8) 8 (omega arith)))
+      rw e (run_then s at (at + 8) (at + 8 + 8) _ _ (run-number at 8 (omega arith)) (run-number (at + 8) 8 (omega arith)))
 
 -- ---- single fields: where they end, and their bytes
 abbrev pub Byte : List ℕ → ℕ → ℕ → ℕ → Type 0
@@ -177,7 +177,7 @@ Place s at p n = (p ≡ at) × ((n ≡ at + 33) × Run s at n (item_bytes (item_
 pub place_ran : (k : Kind) (s : List ℕ) (at : ℕ) → Ran (Place s at) (place_at k s at)
 place_ran k s at =
     ran_weaker (Lies s 33 at) (Place s at) (place_at k s at)
-    (λ p n h. (h.0, (h.1.0, rw (h.0, h.1.0) (run-item s at h.1.1)))) (place_lies k s at)
+    (λ p n h. (h.0, (h.1.0, rw (h.0, h.1.0) (run_item s at h.1.1)))) (place_lies k s at)
 
 flag_is_lem : (b : ℕ) → b ≤ 1 → flag_byte (eqb b 1) ≡ b
 flag_is_lem zero h = refl
@@ -197,21 +197,21 @@ module _ (s : List ℕ) (bytes : Bytes s) where
   abbrev pub Numbered : ℕ → ℕ → ℕ → ℕ → Type 0
   Numbered w at v n = (n ≡ at + w) × Run s at n (be w v)
 
-  pub number-ran : (w at : ℕ) → Ran (Numbered w at) (num_at w s at)
+  pub number_ran : (w at : ℕ) → Ran (Numbered w at) (num_at w s at)
   unfolding num_at
-  number-ran w at =
+  number_ran w at =
       ran_pick (Numbered w at) (leb (at + w) (length s)) (got (be_from 0 (take w (drop at s))) (at + w)) 3
       (λ e. (refl, run-number s bytes at w (leb-true (at + w) (length s) e)))
 
   abbrev pub Sequence : ℕ → Number → ℕ → Type 0
   Sequence at sn n = (n ≡ at + 16) × Run s at n (words_bytes sn.high sn.low)
 
-  pub sn-ran : (at : ℕ) → Ran (Sequence at) (sn_at s at)
+  pub sn_ran : (at : ℕ) → Ran (Sequence at) (sn_at s at)
   unfolding sn_at words_bytes
-  sn-ran at =
-      ran_bind (Numbered 8 at) (Sequence at) (num_at 8 s at) _ (number-ran 8 at)
-      (λ high p h. ran_bind (Numbered 8 p) (Sequence at) (num_at 8 s p) _ (number-ran 8 p)
-      (λ low q g. (let a = h.0 in let b = g.0 in omega arith, run-then s at p q (be 8 high) (be 8 low) h.1 g.1)))
+  sn_ran at =
+      ran_bind (Numbered 8 at) (Sequence at) (num_at 8 s at) _ (number_ran 8 at)
+      (λ high p h. ran_bind (Numbered 8 p) (Sequence at) (num_at 8 s p) _ (number_ran 8 p)
+      (λ low q g. (let a = h.0 in let b = g.0 in omega arith, run_then s at p q (be 8 high) (be 8 low) h.1 g.1)))
 
 -- ---- lists
 -- a count, and where the values lie
@@ -225,24 +225,24 @@ module _ (s : List ℕ) (f : ℕ → Parse ℕ) (w : ℕ) (h : (p : ℕ) → Ran
   abbrev Reach : ℕ → ℕ → Unit {0} → ℕ → Type 0
   Reach n p u q = (q ≡ p + n * w) × (p + n * w ≤ length s)
 
-  runs-ran : (n p : ℕ) → p ≤ length s → Ran (Reach n p) (runs f n p)
+  runs_ran : (n p : ℕ) → p ≤ length s → Ran (Reach n p) (runs f n p)
   unfolding runs
-  runs-ran zero p l = (omega arith, omega arith)
-  runs-ran (suc n) p l =
+  runs_ran zero p l = (omega arith, omega arith)
+  runs_ran (suc n) p l =
       ran_bind (Lies s w p) (Reach (suc n) p) (f p) _ (h p)
       (λ a q g.
       let e = g.1.0 in
       let r = g.1.1 in
       let j : q + n * w ≡ p + suc n * w = rw suc-mul (omega arith) in
-      ran_weaker (Reach n q) (Reach (suc n) p) (runs f n q) (λ u t k. (k.0 ∙ j, rw j at k.1)) (runs-ran n q (omega arith)))
+      ran_weaker (Reach n q) (Reach (suc n) p) (runs f n q) (λ u t k. (k.0 ∙ j, rw j at k.1)) (runs_ran n q (omega arith)))
 
-  span-ran : (max at : ℕ) → Ran (Spanned s w max at) (span_at f max s at)
+  span_ran : (max at : ℕ) → Ran (Spanned s w max at) (span_at f max s at)
   unfolding span_at
-  span-ran max at =
+  span_ran max at =
       ran_bind (Byte s at) (Spanned s w max at) (byte_at s at) _ (byte_ran s at)
       (λ n p b. ran_pick (Spanned s w max at) (leb n max) _ 4
       (λ e. let d = b.1 in let i = d.0 in let j = d.1 in
-      ran_bind (Reach n p) (Spanned s w max at) (runs f n p) _ (runs-ran n p (omega arith))
+      ran_bind (Reach n p) (Spanned s w max at) (runs f n p) _ (runs_ran n p (omega arith))
       (λ u q r. record { count = b; few = leb-true n max e; ends = r.0; within = r.1 })))
 
 abbrev pub Listed : List ℕ → ℕ → ℕ × ℕ → ℕ → Type 0
@@ -255,12 +255,12 @@ items_run s at m n g =
     let l : length xs ≡ m.0 = list_length (item_of s) 33 m.0 m.1 in
     let u : take (length xs) (padded 16 zero_item xs) ≡ xs = padded-used zero_item 16 xs in (
       g.count.1.0,
-      rw (many-got (item_of s) 33 16 s m.0 m.1 g.few g.within, u, l, g.ends)
-          (run-then s at m.1 (m.1 + m.0 * 33) (m.0 ∷ []) (each item_bytes xs) (byte-run s at m.0 m.1 g.count) (run-each s item_bytes (item_of s) 33 (run-item s) m.0 m.1 g.within)),
+      rw (many_got (item_of s) 33 16 s m.0 m.1 g.few g.within, u, l, g.ends)
+          (run_then s at m.1 (m.1 + m.0 * 33) (m.0 ∷ []) (each item_bytes xs) (byte-run s at m.0 m.1 g.count) (run-each s item_bytes (item_of s) 33 (run_item s) m.0 m.1 g.within)),
     )
 
 pub items_ran : (k : Kind) (s : List ℕ) (at : ℕ) → Ran (Listed s at) (items_place_at k s at)
-items_ran k s at = ran_weaker (Spanned s 33 16 at) (Listed s at) (items_place_at k s at) (items_run s at) (span-ran s (place_at k s) 33 (place_lies k s) 16 at)
+items_ran k s at = ran_weaker (Spanned s 33 16 at) (Listed s at) (items_place_at k s at) (items_run s at) (span_ran s (place_at k s) 33 (place_lies k s) 16 at)
 
 abbrev pub Traits : List ℕ → ℕ → ℕ × ℕ → ℕ → Type 0
 Traits s at m n = Run s at n (config_bytes (config_of s m.0 m.1))
@@ -271,11 +271,11 @@ config_run s at m n g =
     let xs = list_of (byte_of s) 1 m.0 m.1 in
     let l : length xs ≡ m.0 = list_length (byte_of s) 1 m.0 m.1 in
     let u : take (length xs) (padded 8 0 xs) ≡ xs = padded-used 0 8 xs in
-    rw (many-got (byte_of s) 1 8 s m.0 m.1 g.few g.within, u, l, g.ends)
-    (run-then s at m.1 (m.1 + m.0 * 1) (m.0 ∷ []) xs (byte-run s at m.0 m.1 g.count) (run-bytes s m.0 m.1 g.within))
+    rw (many_got (byte_of s) 1 8 s m.0 m.1 g.few g.within, u, l, g.ends)
+    (run_then s at m.1 (m.1 + m.0 * 1) (m.0 ∷ []) xs (byte-run s at m.0 m.1 g.count) (run-bytes s m.0 m.1 g.within))
 
 pub config_ran : (s : List ℕ) (at : ℕ) → Ran (Traits s at) (config_place_at s at)
-config_ran s at = ran_weaker (Spanned s 1 8 at) (Traits s at) (config_place_at s at) (config_run s at) (span-ran s (trait_place_at s) 1 (trait_lies s) 8 at)
+config_ran s at = ran_weaker (Spanned s 1 8 at) (Traits s at) (config_place_at s at) (config_run s at) (span_ran s (trait_place_at s) 1 (trait_lies s) 8 at)
 
 -- ---- thresholds
 -- the used part of an array that was filled from its place
@@ -283,7 +283,7 @@ used : {A : Type 0} (f : ℕ → A) (w : ℕ) (z : A) (s : List ℕ) (n p : ℕ)
     → take n (padded 16 z (many_of f w 16 s n p)) ≡ list_of f w n p
 used f w z s n p h k =
     let xs = list_of f w n p in
-    rw (many-got f w 16 s n p h k) (take_at xs _ n (list_length f w n p))
+    rw (many_got f w 16 s n p h k) (take_at xs _ n (list_length f w n p))
 
 -- n size bytes behind sizes that come to `so`
 record Sizes (s : List ℕ) (n so p : ℕ) (t : ℕ) (q : ℕ) : Type 0 where
@@ -312,11 +312,11 @@ sizes_ran s (suc n) so p h k =
 
 module _ (s : List ℕ) (bytes : Bytes s) where
   -- the bytes of the weighted threshold whose parts stand at the marks
-  weighted-are : (n p t w : ℕ) → n ≤ 16 → Sizes s n 0 p t w → w + t * 16 ≤ length s
+  weighted_are : (n p t w : ℕ) → n ≤ 16 → Sizes s n 0 p t w → w + t * 16 ≤ length s
       → threshold_bytes (threshold_of s (weighted_marks n p t w))
       ≡ (1 ∷ []) ++ ((n ∷ list_of (byte_of s) 1 n p) ++ each weight_bytes (list_of (weight_of s) 16 t w))
   unfolding counted
-  weighted-are n p t w h g k =
+  weighted_are n p t w h g k =
       let x = threshold_of s (weighted_marks n p t w) in
       let zs : threshold.sizes_of x ≡ list_of (byte_of s) 1 n p = used (byte_of s) 1 0 s n p h g.within in
       let ws : take t x.weights ≡ list_of (weight_of s) 16 t w = used (weight_of s) 16 no_weight s t w g.light k in
@@ -327,9 +327,9 @@ module _ (s : List ℕ) (bytes : Bytes s) where
   abbrev pub Marked : ℕ → Marks → ℕ → Type 0
   Marked at m n = Run s at n (threshold_bytes (threshold_of s m))
 
-  weighted-ran : (at p : ℕ) → Run s at p (1 ∷ []) → Ran (Marked at) (weighted_at s p)
+  weighted_ran : (at p : ℕ) → Run s at p (1 ∷ []) → Ran (Marked at) (weighted_at s p)
   unfolding weighted_at pass_at
-  weighted-ran at p one =
+  weighted_ran at p one =
       ran_bind (Byte s p) (Marked at) (byte_at s p) _ (byte_ran s p)
       (λ n q b. ran_pick (Marked at) (leb n 16) _ 4
       (λ e. let i = b.1.0 in let j = b.1.1 in
@@ -338,20 +338,20 @@ module _ (s : List ℕ) (bytes : Bytes s) where
       (λ r. let k = leb-true (w + t * 16) (length s) r in
       let zs = list_of (byte_of s) 1 n q in
       let ws = each weight_bytes (list_of (weight_of s) 16 t w) in
-      let sizes : Run s q w zs = run-to s q (q + n * 1) w zs g.ends (run-bytes s n q g.within) in
-      let weights : Run s w (w + t * 16) ws = run-each s weight_bytes (weight_of s) 16 (run-weight s bytes) t w k in
-      let clauses : Run s p w (n ∷ zs) = run-then s p q w (n ∷ []) zs (byte-run s p n q b) sizes in
-      run-same s at (w + t * 16) _ _ (weighted-are n q t w (leb-true n 16 e) g k)
-      (run-then s at p (w + t * 16) (1 ∷ []) _ one (run-then s p w (w + t * 16) (n ∷ zs) ws clauses weights))))))
+      let sizes : Run s q w zs = run_to s q (q + n * 1) w zs g.ends (run-bytes s n q g.within) in
+      let weights : Run s w (w + t * 16) ws = run-each s weight_bytes (weight_of s) 16 (run_weight s bytes) t w k in
+      let clauses : Run s p w (n ∷ zs) = run_then s p q w (n ∷ []) zs (byte-run s p n q b) sizes in
+      run-same s at (w + t * 16) _ _ (weighted_are n q t w (leb-true n 16 e) g k)
+      (run_then s at p (w + t * 16) (1 ∷ []) _ one (run_then s p w (w + t * 16) (n ∷ zs) ws clauses weights))))))
 
-  as-ran : (tag at p : ℕ) → Run s at p (tag ∷ []) → Ran (Marked at) (marks_as tag s p)
+  as_ran : (tag at p : ℕ) → Run s at p (tag ∷ []) → Ran (Marked at) (marks_as tag s p)
   unfolding marks_as
-  as-ran zero at p one =
-      ran_bind (Numbered s bytes 8 p) (Marked at) (num_at 8 s p) _ (number-ran s bytes 8 p)
-      (λ n q g. run-same s at q _ _ (simple-bytes (threshold_of s (simple_marks n)) refl) (run-then s at p q (0 ∷ []) (be 8 n) one g.1))
-  as-ran (suc zero) at p one = weighted-ran at p one
-  as-ran (suc (suc n)) at p one = tt
+  as_ran zero at p one =
+      ran_bind (Numbered s bytes 8 p) (Marked at) (num_at 8 s p) _ (number_ran s bytes 8 p)
+      (λ n q g. run-same s at q _ _ (simple-bytes (threshold_of s (simple_marks n)) refl) (run_then s at p q (0 ∷ []) (be 8 n) one g.1))
+  as_ran (suc zero) at p one = weighted_ran at p one
+  as_ran (suc (suc n)) at p one = tt
 
-  pub marks-ran : (at : ℕ) → Ran (Marked at) (marks_at s at)
+  pub marks_ran : (at : ℕ) → Ran (Marked at) (marks_at s at)
   unfolding marks_at
-  marks-ran at = ran_bind (Byte s at) (Marked at) (byte_at s at) _ (byte_ran s at) (λ tag p b. as-ran tag at p (byte-run s at tag p b))
+  marks_ran at = ran_bind (Byte s at) (Marked at) (byte_at s at) _ (byte_ran s at) (λ tag p b. as_ran tag at p (byte-run s at tag p b))

@@ -3,7 +3,7 @@
 --     place-, sn-, number-, items-, config-, marks-, flag-bytes     one law a field
 --     quorum-bytes, signers-bytes     the groups
 --     ..-point, ..-signers            "sn, said" and "keys, threshold, next, next threshold" of each record
---     snapshot-last, snapshot-whole   "last establishment sn and said"; a snapshot's state, written, is the snapshot
+--     snapshot_last, snapshot_whole   "last establishment sn and said"; a snapshot's state, written, is the snapshot
 --     few_items, few_traits           a list that was copied is no longer than its limit
 use mathlib.Core.Path.{◌≡◌, refl, sym, ap, ◌∙◌}
 use mathlib.Core.Bool.{Bool, true, false}
@@ -40,31 +40,31 @@ use Rattle.snapshot.specs.Bytes.{words_bytes, item_bytes, items_bytes, config_by
 use Rattle.snapshot.specs.Saved.{point_bytes, group_bytes, head_bytes, tail_bytes, body_bytes}
 use Rattle.canonical.specs.Bytes.{Bytes}
 use Rattle.canonical.specs.Canonical.{Run, quorum_bytes, signers_bytes, Point, Signers, Last}
-use Rattle.canonical.proofs.Fields.{Ran, ran_bind, ran_pick, ran_got, run-then, run-taken, Byte, byte_ran, byte-run, Place, place_ran, Flag, flag_ran, Numbered, number-ran, Sequence, sn-ran, Listed, items_ran, Traits, config_ran, Marked, marks-ran}
+use Rattle.canonical.proofs.Fields.{Ran, ran_bind, ran_pick, ran_got, run_then, run-taken, Byte, byte_ran, byte-run, Place, place_ran, Flag, flag_ran, Numbered, number_ran, Sequence, sn_ran, Listed, items_ran, Traits, config_ran, Marked, marks_ran}
 
 -- ---- fields
 module _ (s : List ℕ) (at : ℕ) where
-  pub place-bytes : (k : Kind) (p n : ℕ) → place_at k s at ≡ got p n → (p ≡ at) × Run s at n (item_bytes (item_of s p))
-  place-bytes k p n e = let h = ran_got (Place s at) (place_at k s at) p n e (place_ran k s at) in (h.0, h.1.1)
+  pub place_bytes : (k : Kind) (p n : ℕ) → place_at k s at ≡ got p n → (p ≡ at) × Run s at n (item_bytes (item_of s p))
+  place_bytes k p n e = let h = ran_got (Place s at) (place_at k s at) p n e (place_ran k s at) in (h.0, h.1.1)
 
-  pub items-bytes : (k : Kind) (c f n : ℕ) → items_place_at k s at ≡ got (c, f) n → (f ≡ at + 1) × Run s at n (items_bytes (items_of s c f))
-  items-bytes k c f n e = ran_got (Listed s at) (items_place_at k s at) (c, f) n e (items_ran k s at)
+  pub items_bytes_lem : (k : Kind) (c f n : ℕ) → items_place_at k s at ≡ got (c, f) n → (f ≡ at + 1) × Run s at n (items_bytes (items_of s c f))
+  items_bytes_lem k c f n e = ran_got (Listed s at) (items_place_at k s at) (c, f) n e (items_ran k s at)
 
-  pub config-bytes : (c f n : ℕ) → config_place_at s at ≡ got (c, f) n → Run s at n (config_bytes (config_of s c f))
-  config-bytes c f n e = ran_got (Traits s at) (config_place_at s at) (c, f) n e (config_ran s at)
+  pub config_bytes_lem : (c f n : ℕ) → config_place_at s at ≡ got (c, f) n → Run s at n (config_bytes (config_of s c f))
+  config_bytes_lem c f n e = ran_got (Traits s at) (config_place_at s at) (c, f) n e (config_ran s at)
 
   pub flag-bytes : (b : Bool) (n : ℕ) → flag_at s at ≡ got b n → Run s at n (flag_byte b ∷ [])
   flag-bytes b n e = (ran_got (Flag s at) (flag_at s at) b n e (flag_ran s at)).1
 
   module _ (bytes : Bytes s) where
     pub number-bytes : (w v n : ℕ) → num_at w s at ≡ got v n → Run s at n (be w v)
-    number-bytes w v n e = (ran_got (Numbered s bytes w at) (num_at w s at) v n e (number-ran s bytes w at)).1
+    number-bytes w v n e = (ran_got (Numbered s bytes w at) (num_at w s at) v n e (number_ran s bytes w at)).1
 
-    pub sn-bytes : (sn : Number) (n : ℕ) → sn_at s at ≡ got sn n → Run s at n (words_bytes sn.high sn.low)
-    sn-bytes sn n e = (ran_got (Sequence s bytes at) (sn_at s at) sn n e (sn-ran s bytes at)).1
+    pub sn_bytes : (sn : Number) (n : ℕ) → sn_at s at ≡ got sn n → Run s at n (words_bytes sn.high sn.low)
+    sn_bytes sn n e = (ran_got (Sequence s bytes at) (sn_at s at) sn n e (sn_ran s bytes at)).1
 
-    pub marks-bytes : (m : Marks) (n : ℕ) → marks_at s at ≡ got m n → Run s at n (threshold_bytes (threshold_of s m))
-    marks-bytes m n e = ran_got (Marked s bytes at) (marks_at s at) m n e (marks-ran s bytes at)
+    pub marks_bytes : (m : Marks) (n : ℕ) → marks_at s at ≡ got m n → Run s at n (threshold_bytes (threshold_of s m))
+    marks_bytes m n e = ran_got (Marked s bytes at) (marks_at s at) m n e (marks_ran s bytes at)
 
 -- ---- a list that was copied is no longer than its limit, whatever the marks
 many_few : {A : Type 0} (f : ℕ → A) (w max : ℕ) (s : List ℕ) (n p : ℕ) → length (many_of f w max s n p) ≤ max
@@ -89,28 +89,28 @@ module _ (s : List ℕ) (bytes : Bytes s) where
   abbrev Quorum : ℕ → QuorumMarks → ℕ → Type 0
   Quorum at m n = Run s at n (quorum_bytes s m)
 
-  quorum-ran : (k : Kind) (at : ℕ) → Ran (Quorum at) (quorum_places k s at)
+  quorum_ran : (k : Kind) (at : ℕ) → Ran (Quorum at) (quorum_places k s at)
   unfolding quorum_places group_bytes
-  quorum-ran k at =
+  quorum_ran k at =
       ran_bind (Listed s at) (Quorum at) (items_place_at k s at) _ (items_ran k s at)
-      (λ l p h. ran_bind (Marked s bytes p) (Quorum at) (marks_at s p) _ (marks-ran s bytes p)
-      (λ t n g. run-then s at p n _ _ h.1 g))
+      (λ l p h. ran_bind (Marked s bytes p) (Quorum at) (marks_at s p) _ (marks_ran s bytes p)
+      (λ t n g. run_then s at p n _ _ h.1 g))
 
   abbrev Signing : ℕ → SignersMarks → ℕ → Type 0
   Signing at m n = Run s at n (signers_bytes s m)
 
-  signers-ran : (at : ℕ) → Ran (Signing at) (signers_places s at)
+  signers_ran : (at : ℕ) → Ran (Signing at) (signers_places s at)
   unfolding signers_places
-  signers-ran at =
-      ran_bind (Quorum at) (Signing at) (quorum_places Key s at) _ (quorum-ran Key at)
-      (λ a p h. ran_bind (Quorum p) (Signing at) (quorum_places Said s p) _ (quorum-ran Said p)
-      (λ c n g. run-then s at p n (quorum_bytes s a) (quorum_bytes s c) h g))
+  signers_ran at =
+      ran_bind (Quorum at) (Signing at) (quorum_places Key s at) _ (quorum_ran Key at)
+      (λ a p h. ran_bind (Quorum p) (Signing at) (quorum_places Said s p) _ (quorum_ran Said p)
+      (λ c n g. run_then s at p n (quorum_bytes s a) (quorum_bytes s c) h g))
 
   pub quorum-bytes : (k : Kind) (at : ℕ) (m : QuorumMarks) (n : ℕ) → quorum_places k s at ≡ got m n → Run s at n (quorum_bytes s m)
-  quorum-bytes k at m n e = ran_got (Quorum at) (quorum_places k s at) m n e (quorum-ran k at)
+  quorum-bytes k at m n e = ran_got (Quorum at) (quorum_places k s at) m n e (quorum_ran k at)
 
   pub signers-bytes : (at : ℕ) (m : SignersMarks) (n : ℕ) → signers_places s at ≡ got m n → Run s at n (signers_bytes s m)
-  signers-bytes at m n e = ran_got (Signing at) (signers_places s at) m n e (signers-ran at)
+  signers-bytes at m n e = ran_got (Signing at) (signers_places s at) m n e (signers_ran at)
 
   -- "prefix, sn, latest said"
   record Head (at : ℕ) (m : HeadMarks) (n : ℕ) : Type 0 where
@@ -118,11 +118,11 @@ module _ (s : List ℕ) (bytes : Bytes s) where
     point : Run s (at + 33) n (point_bytes m.sn (item_of s m.said))
     ends : n ≡ at + 82
 
-  first-ran : (at : ℕ) → Ran (Head at) (first_head_places s at)
+  first_ran : (at : ℕ) → Ran (Head at) (first_head_places s at)
   unfolding first_head_places point_bytes
-  first-ran at =
+  first_ran at =
       ran_bind (Place s at) (Head at) (place_at Prefix s at) _ (place_ran Prefix s at)
-      (λ prefix p h. ran_bind (Sequence s bytes p) (Head at) (sn_at s p) _ (sn-ran s bytes p)
+      (λ prefix p h. ran_bind (Sequence s bytes p) (Head at) (sn_at s p) _ (sn_ran s bytes p)
       (λ sn q g. ran_bind (Place s q) (Head at) (place_at Said s q) _ (place_ran Said s q)
       (λ said n k.
       let a = h.1.0 in
@@ -130,7 +130,7 @@ module _ (s : List ℕ) (bytes : Bytes s) where
       let c = k.1.0 in
       record {
         prefix = rw (← a) h.1.1;
-        point = rw (← a) (run-then s p q n _ _ g.1 k.1.1);
+        point = rw (← a) (run_then s p q n _ _ g.1 k.1.1);
         ends = omega arith;
       })))
 
@@ -139,18 +139,18 @@ module _ (s : List ℕ) (bytes : Bytes s) where
     head : Head at m (at + 82)
     ends : n ≡ at + 115
 
-  later-ran : (at : ℕ) → Ran (Later at) (later_head_places s at)
+  later_ran : (at : ℕ) → Ran (Later at) (later_head_places s at)
   unfolding later_head_places
-  later-ran at =
-      ran_bind (Head at) (Later at) (first_head_places s at) _ (first-ran at)
+  later_ran at =
+      ran_bind (Head at) (Later at) (first_head_places s at) _ (first_ran at)
       (λ h p g. ran_bind (Place s p) (Later at) (place_at Said s p) _ (place_ran Said s p)
       (λ prior n k.
       let a = g.ends in
       let b = k.1.0 in
       record { head = record { prefix = g.prefix; point = rw (← a) g.point; ends = refl }; ends = omega arith }))
 
-  head-point : (m : HeadMarks) (n : ℕ) → Head 0 m n → Point s m
-  head-point m n h =
+  head_point : (m : HeadMarks) (n : ℕ) → Head 0 m n → Point s m
+  head_point m n h =
       let e : n ≡ 82 = h.ends in
       let p = h.point in
       let w = p.within in
@@ -183,39 +183,39 @@ module _ (s : List ℕ) (bytes : Bytes s) where
     rest : (q : ℕ) (zs : List ℕ) → Run s n q zs → Run s signed.end q (behind b zs)
     forth : at ≤ n
 
-  inception-ran : (at : ℕ) → Ran (Whole at) (inception_body_places s at)
+  inception_ran : (at : ℕ) → Ran (Whole at) (inception_body_places s at)
   unfolding inception_body_places
-  inception-ran at =
-      ran_bind (Signing at) (Whole at) (signers_places s at) _ (signers-ran at)
+  inception_ran at =
+      ran_bind (Signing at) (Whole at) (signers_places s at) _ (signers_ran at)
       (λ signers e h. ran_bind (Listed s e) (Whole at) (items_place_at Key s e) _ (items_ran Key s e)
-      (λ witnesses p g. ran_bind (Numbered s bytes 4 p) (Whole at) (num_at 4 s p) _ (number-ran s bytes 4 p)
+      (λ witnesses p g. ran_bind (Numbered s bytes 4 p) (Whole at) (num_at 4 s p) _ (number_ran s bytes 4 p)
       (λ toad q k. ran_bind (Traits s q) (Whole at) (config_place_at s q) _ (config_ran s q)
       (λ config n l.
       record {
         signed = record { end = e; run = h; count = g.0 };
-        rest = λ z zs r. run-then s e p z _ _ g.1 (run-then s p q z _ _ k.1 (run-then s q n z _ _ l r));
+        rest = λ z zs r. run_then s e p z _ _ g.1 (run_then s p q z _ _ k.1 (run_then s q n z _ _ l r));
         forth = omega (arith, h.ends, g.1.ends, k.1.ends, l.ends);
       }))))
 
   abbrev Only : ℕ → BodyMarks → ℕ → Type 0
   Only at b n = Signed at b
 
-  rotation-ran : (at : ℕ) → Ran (Only at) (rotation_body_places s at)
+  rotation_ran : (at : ℕ) → Ran (Only at) (rotation_body_places s at)
   unfolding rotation_body_places
-  rotation-ran at =
-      ran_bind (Signing at) (Only at) (signers_places s at) _ (signers-ran at)
+  rotation_ran at =
+      ran_bind (Signing at) (Only at) (signers_places s at) _ (signers_ran at)
       (λ signers e h. ran_bind (Listed s e) (Only at) (items_place_at Key s e) _ (items_ran Key s e)
       (λ additions p g. ran_bind (Listed s p) (Only at) (items_place_at Key s p) _ (items_ran Key s p)
-      (λ removals q k. ran_bind (Numbered s bytes 4 q) (Only at) (num_at 4 s q) _ (number-ran s bytes 4 q)
+      (λ removals q k. ran_bind (Numbered s bytes 4 q) (Only at) (num_at 4 s q) _ (number_ran s bytes 4 q)
       (λ toad n l. record { end = e; run = h; count = g.0 }))))
 
   -- ---- events
   abbrev Some : {A : Type 0} → A → ℕ → Type 0
   Some a n = Unit
 
-  some-ran : {A : Type 0} (x : Parse A) → Ran Some x
-  some-ran (got a n) = tt
-  some-ran (bad r) = tt
+  some_ran : {A : Type 0} (x : Parse A) → Ran Some x
+  some_ran (got a n) = tt
+  some_ran (bad r) = tt
 
   abbrev Event : ℕ → EventMarks → ℕ → Type 0
   Event from m n = Point s m.head × Signers s from m.body
@@ -223,18 +223,18 @@ module _ (s : List ℕ) (bytes : Bytes s) where
   inceptions : Ran (Event 82) (inception_places s 0)
   unfolding inception_places
   inceptions =
-      ran_bind (Head 0) (Event 82) (first_head_places s 0) _ (first-ran 0)
-      (λ h p a. ran_bind (Whole p) (Event 82) (inception_body_places s p) _ (inception-ran p)
-      (λ b q g. ran_bind Some (Event 82) (tail_places s q) _ (some-ran (tail_places s q))
-      (λ t n u. (head-point h p a, rw a.ends at (signed-signers p b g.signed)))))
+      ran_bind (Head 0) (Event 82) (first_head_places s 0) _ (first_ran 0)
+      (λ h p a. ran_bind (Whole p) (Event 82) (inception_body_places s p) _ (inception_ran p)
+      (λ b q g. ran_bind Some (Event 82) (tail_places s q) _ (some_ran (tail_places s q))
+      (λ t n u. (head_point h p a, rw a.ends at (signed-signers p b g.signed)))))
 
   rotations : Ran (Event 115) (rotation_places s 0)
   unfolding rotation_places
   rotations =
-      ran_bind (Later 0) (Event 115) (later_head_places s 0) _ (later-ran 0)
-      (λ h p a. ran_bind (Only p) (Event 115) (rotation_body_places s p) _ (rotation-ran p)
-      (λ b q g. ran_bind Some (Event 115) (tail_places s q) _ (some-ran (tail_places s q))
-      (λ t n u. (head-point h 82 a.head, rw a.ends at (signed-signers p b g)))))
+      ran_bind (Later 0) (Event 115) (later_head_places s 0) _ (later_ran 0)
+      (λ h p a. ran_bind (Only p) (Event 115) (rotation_body_places s p) _ (rotation_ran p)
+      (λ b q g. ran_bind Some (Event 115) (tail_places s q) _ (some_ran (tail_places s q))
+      (λ t n u. (head_point h 82 a.head, rw a.ends at (signed-signers p b g)))))
 
   abbrev Pointed : EventMarks → ℕ → Type 0
   Pointed m n = Point s m.head
@@ -242,33 +242,33 @@ module _ (s : List ℕ) (bytes : Bytes s) where
   interactions : Ran Pointed (interaction_places s 0)
   unfolding interaction_places
   interactions =
-      ran_bind (Later 0) Pointed (later_head_places s 0) _ (later-ran 0)
-      (λ h p a. ran_bind Some Pointed (tail_places s p) _ (some-ran (tail_places s p))
-      (λ t n u. head-point h 82 a.head))
+      ran_bind (Later 0) Pointed (later_head_places s 0) _ (later_ran 0)
+      (λ h p a. ran_bind Some Pointed (tail_places s p) _ (some_ran (tail_places s p))
+      (λ t n u. head_point h 82 a.head))
 
   module _ (m : EventMarks) (n : ℕ) where
-    pub inception-point : inception_places s 0 ≡ got m n → Point s m.head
-    inception-point e = (ran_got (Event 82) (inception_places s 0) m n e inceptions).0
+    pub inception_point : inception_places s 0 ≡ got m n → Point s m.head
+    inception_point e = (ran_got (Event 82) (inception_places s 0) m n e inceptions).0
 
     pub inception-signers : inception_places s 0 ≡ got m n → Signers s 82 m.body
     inception-signers e = (ran_got (Event 82) (inception_places s 0) m n e inceptions).1
 
-    pub rotation-point : rotation_places s 0 ≡ got m n → Point s m.head
-    rotation-point e = (ran_got (Event 115) (rotation_places s 0) m n e rotations).0
+    pub rotation_point : rotation_places s 0 ≡ got m n → Point s m.head
+    rotation_point e = (ran_got (Event 115) (rotation_places s 0) m n e rotations).0
 
     pub rotation-signers : rotation_places s 0 ≡ got m n → Signers s 115 m.body
     rotation-signers e = (ran_got (Event 115) (rotation_places s 0) m n e rotations).1
 
-    pub interaction-point : interaction_places s 0 ≡ got m n → Point s m.head
-    interaction-point e = ran_got Pointed (interaction_places s 0) m n e interactions
+    pub interaction_point : interaction_places s 0 ≡ got m n → Point s m.head
+    interaction_point e = ran_got Pointed (interaction_places s 0) m n e interactions
 
   -- ---- snapshots
   abbrev Latest : ℕ → ℕ → ℕ → Type 0
   Latest at v n = (n ≡ at + 1) × Run s at n (v ∷ [])
 
-  latest-ran : (at : ℕ) → Ran (Latest at) (latest_at s at)
+  latest_ran : (at : ℕ) → Ran (Latest at) (latest_at s at)
   unfolding latest_at
-  latest-ran at =
+  latest_ran at =
       ran_bind (Byte s at) (Latest at) (byte_at s at) _ (byte_ran s at)
       (λ v n h. ran_pick (Latest at) (leb v 2) (got v n) 3 (λ e. (h.1.0, byte-run s at v n h)))
 
@@ -279,11 +279,11 @@ module _ (s : List ℕ) (bytes : Bytes s) where
     size : n ≡ at + 50
     ends : n ≡ length s
 
-  last-ran : (at : ℕ) → Ran (Closing at) (last_places s at)
+  last_ran : (at : ℕ) → Ran (Closing at) (last_places s at)
   unfolding last_places ended point_bytes
-  last-ran at =
+  last_ran at =
       ran_bind (Flag s at) (Closing at) (flag_at s at) _ (flag_ran s at)
-      (λ transferable p h. ran_bind (Sequence s bytes p) (Closing at) (sn_at s p) _ (sn-ran s bytes p)
+      (λ transferable p h. ran_bind (Sequence s bytes p) (Closing at) (sn_at s p) _ (sn_ran s bytes p)
       (λ sn q g. ran_bind (Place s q) (Closing at) (place_at Said s q) _ (place_ran Said s q)
       (λ said n k. ran_pick (Closing at) (eqb n (length s)) (got _ n) 3
       (λ e.
@@ -292,13 +292,13 @@ module _ (s : List ℕ) (bytes : Bytes s) where
       let c = k.1.0 in
       record {
         flag = rw (← a) h.1;
-        point = rw (← a) (run-then s p q n _ _ g.1 k.1.1);
+        point = rw (← a) (run_then s p q n _ _ g.1 k.1.1);
         size = omega arith;
         ends = eqb-true n (length s) e;
       }))))
 
-  closing-last : (at : ℕ) (l : LastMarks) (n : ℕ) → 83 ≤ at → Closing at l n → Last s l
-  closing-last at l n h g =
+  closing_last : (at : ℕ) (l : LastMarks) (n : ℕ) → 83 ≤ at → Closing at l n → Last s l
+  closing_last at l n h g =
       let a = g.size in
       let b = g.ends in
       let e : length s - 49 ≡ at + 1 = omega arith in
@@ -312,30 +312,30 @@ module _ (s : List ℕ) (bytes : Bytes s) where
     ends : n ≡ length s
 
   -- the fields of a snapshot, one behind another
-  snapshot-run : (m : StateMarks) (p q r n : ℕ) → Head 0 m.head p → Latest p m.latest q → Whole q m.body r → Closing r m.last n
+  snapshot_run : (m : StateMarks) (p q r n : ℕ) → Head 0 m.head p → Latest p m.latest q → Whole q m.body r → Closing r m.last n
       → Run s 0 n (body_bytes (state_of s m))
   unfolding body_bytes head_bytes tail_bytes
-  snapshot-run m p q r n h l g c =
+  snapshot_run m p q r n h l g c =
       let b = m.body.signers in
-      let t = g.rest n _ (run-then s r (r + 1) n (flag_byte m.last.transferable ∷ []) _ c.flag c.point) in
-      run-then s 0 p n _ _ (run-then s 0 33 p _ _ h.prefix h.point)
-      (run-then s p q n (m.latest ∷ []) _ l.1
-      (rw append_assoc at (run-then s q g.signed.end n (signers_bytes s b) _ g.signed.run t)))
+      let t = g.rest n _ (run_then s r (r + 1) n (flag_byte m.last.transferable ∷ []) _ c.flag c.point) in
+      run_then s 0 p n _ _ (run_then s 0 33 p _ _ h.prefix h.point)
+      (run_then s p q n (m.latest ∷ []) _ l.1
+      (rw append_assoc at (run_then s q g.signed.end n (signers_bytes s b) _ g.signed.run t)))
 
   snapshots : Ran Snapshot (snapshot_places s 0)
   unfolding snapshot_places
   snapshots =
-      ran_bind (Head 0) Snapshot (first_head_places s 0) _ (first-ran 0)
-      (λ h p a. ran_bind (Latest p) Snapshot (latest_at s p) _ (latest-ran p)
-      (λ latest q l. ran_bind (Whole q) Snapshot (inception_body_places s q) _ (inception-ran q)
-      (λ b r g. ran_bind (Closing r) Snapshot (last_places s r) _ (last-ran r)
+      ran_bind (Head 0) Snapshot (first_head_places s 0) _ (first_ran 0)
+      (λ h p a. ran_bind (Latest p) Snapshot (latest_at s p) _ (latest_ran p)
+      (λ latest q l. ran_bind (Whole q) Snapshot (inception_body_places s q) _ (inception_ran q)
+      (λ b r g. ran_bind (Closing r) Snapshot (last_places s r) _ (last_ran r)
       (λ last n c.
       let e : q ≡ 83 = omega (arith, a.ends, l.0) in
       record {
-        point = head-point h p a;
+        point = head_point h p a;
         signers = rw e at (signed-signers q b g.signed);
-        last = closing-last r last n (omega (arith, e, g.forth)) c;
-        whole = snapshot-run (record { head = h; latest = latest; body = b; last = last }) p q r n a l g c;
+        last = closing_last r last n (omega (arith, e, g.forth)) c;
+        whole = snapshot_run (record { head = h; latest = latest; body = b; last = last }) p q r n a l g c;
         ends = c.ends;
       }))))
 
@@ -343,17 +343,17 @@ module _ (s : List ℕ) (bytes : Bytes s) where
     scanned : Snapshot m n
     scanned = ran_got Snapshot (snapshot_places s 0) m n e snapshots
 
-    pub snapshot-point : Point s m.head
-    snapshot-point = scanned.point
+    pub snapshot_point : Point s m.head
+    snapshot_point = scanned.point
 
-    pub snapshot-signers : Signers s 83 m.body
-    snapshot-signers = scanned.signers
+    pub snapshot_signers : Signers s 83 m.body
+    snapshot_signers = scanned.signers
 
-    pub snapshot-last : Last s m.last
-    snapshot-last = scanned.last
+    pub snapshot_last : Last s m.last
+    snapshot_last = scanned.last
 
-    pub snapshot-whole : body_bytes (state_of s m) ≡ s
-    snapshot-whole =
+    pub snapshot_whole : body_bytes (state_of s m) ≡ s
+    snapshot_whole =
         let r = scanned.whole in
         let h : n ≡ length s = scanned.ends in
         sym (r.is ∙ rw (h, drop-length s) (append-nil _))

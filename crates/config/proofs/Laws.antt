@@ -11,20 +11,20 @@ use denote.Laws.{Is}
 use borrow.Author.Tests.{le-leb, lt-leb, leb-true, eqb-true}
 use Rattle.lists.specs.Lists.{all}
 use Rattle.lists.proofs.Facts.{picks}
-use Rattle.lists.proofs.Padding.{is-padded}
+use Rattle.lists.proofs.Padding.{is_padded}
 use Rattle.config.specs.declared.Config.{Config}
 use Rattle.config.specs.Config.{traits_of, packed_traits, is_trait, shape_of}
 use Rattle.config.specs.contracts.Config.{the_row}
 
 module _ (t : ℕ) where
-  pub trait-in : 1 ≤ t → t ≤ 15 → is_trait t ≡ true
-  trait-in h k = rw (le-leb _ _ h, le-leb _ _ k)
+  pub trait_in : 1 ≤ t → t ≤ 15 → is_trait t ≡ true
+  trait_in h k = rw (le-leb _ _ h, le-leb _ _ k)
 
-  pub trait-low : t < 1 → is_trait t ≡ false
-  trait-low h = rw (lt-leb _ _ h)
+  pub trait_low : t < 1 → is_trait t ≡ false
+  trait_low h = rw (lt-leb _ _ h)
 
-  pub trait-high : 15 < t → is_trait t ≡ false
-  trait-high h = let l : 1 ≤ t = omega arith in rw (le-leb _ _ l, lt-leb _ _ h)
+  pub trait_high : 15 < t → is_trait t ≡ false
+  trait_high h = let l : 1 ≤ t = omega arith in rw (le-leb _ _ l, lt-leb _ _ h)
 
 -- who owns a config knows that it has 8 places: from `good` for a parameter, from `ok` for a call's result
 pub places-8 : (c : Config) (vs : List Val) → Is the_row c vs → length c.traits ≡ 8
@@ -54,4 +54,4 @@ packed_traits_lem c h e =
     let g = good c e in
     let few : c.count ≤ 8 = g.few in
     let n : length (traits_of c) ≡ c.count = simp length-take (omega arith) in
-    made (sym n) (is-padded 0 (eqb 0) zero_only 8 c.count c.traits h few g.rest)
+    made (sym n) (is_padded 0 (eqb 0) zero_only 8 c.count c.traits h few g.rest)

@@ -2,8 +2,8 @@
 --     pair-                a number of two bytes
 --     num-, byte-, raw-    a number, a byte, a copy: where there is room, and where there is not
 --     runs-, span-         what a loop over a list's fields has read, and has yet to read
---     list-more            what a loop that fills an array holds after one value more
---     span-values          scanning a list and copying it after is reading it
+--     list_more            what a loop that fills an array holds after one value more
+--     span_values          scanning a list and copying it after is reading it
 use mathlib.Core.Path.{◌≡◌, refl, sym, ap, ◌∙◌}
 use mathlib.Core.Bool.{Bool, true, false}
 use mathlib.Core.List.{List, [], ◌∷◌, ◌++◌, append-nil}
@@ -17,7 +17,7 @@ use lib.Seq.{take-suc, take-take, get_or-drop}
 use borrow.Author.Tests.{le-leb, lt-leb, lt-ltb, le-ltb, leb-true, leb-false, ltb-true}
 use Rattle.lists.specs.Lists.{pick, padded}
 use Rattle.lists.proofs.Facts.{clash}
-use Rattle.lists.proofs.Padding.{padded-push}
+use Rattle.lists.proofs.Padding.{padded_push}
 use Rattle.format.specs.Parse.{Parse, got, bad, bind, byte_at, be_from, num_at, many_at, list_at}
 use Rattle.cursor.specs.Cursor.{raw_of}
 use Rattle.cursor.specs.Spans.{mapped, runs, span_at, list_of, many_of}
@@ -44,17 +44,17 @@ pub grows : (i v b : ℕ) → v < 256 ^ i → b < 256 → v * 256 + b < 256 ^ (i
 grows i v b k l = rw (add-one, pow-suc) (omega arith)
 
 module _ (w : ℕ) (s : List ℕ) (at : ℕ) where
-  pub num-got : at + w ≤ length s → num_at w s at ≡ got (be_from 0 (take w (drop at s))) (at + w)
+  pub num_got : at + w ≤ length s → num_at w s at ≡ got (be_from 0 (take w (drop at s))) (at + w)
   unfolding num_at
-  num-got h = simp (le-leb _ _ h)
+  num_got h = simp (le-leb _ _ h)
 
-  pub num-short : length s < at + w → num_at w s at ≡ bad 3
+  pub num_short : length s < at + w → num_at w s at ≡ bad 3
   unfolding num_at
-  num-short h = simp (lt-leb _ _ h)
+  num_short h = simp (lt-leb _ _ h)
 
   -- what a loop that has read all w bytes holds
-  pub num-is : (v i : ℕ) → at + w ≤ length s → i ≡ w → v ≡ be_from 0 (take i (drop at s)) → got v (at + w) ≡ num_at w s at
-  num-is v i h e p = rw (num-got h, p, e)
+  pub num_is : (v i : ℕ) → at + w ≤ length s → i ≡ w → v ≡ be_from 0 (take i (drop at s)) → got v (at + w) ≡ num_at w s at
+  num_is v i h e p = rw (num_got h, p, e)
 
 -- a number of two bytes, where it was read
 pub record Pair (s : List ℕ) (at v n : ℕ) : Type 0 where
@@ -83,28 +83,28 @@ module _ (s : List ℕ) (at : ℕ) where
       let z : 0 * 256 + get_or s (at + 0) 0 ≡ get_or s at 0 = rw (add-zero at) (omega arith) in
       two ∙ ap (λ (x : ℕ). x * 256 + get_or s (at + 1) 0) (one ∙ z)
 
-  pub pair-got : (v n : ℕ) → got v n ≡ num_at 2 s at → Pair s at v n
+  pub pair_got : (v n : ℕ) → got v n ≡ num_at 2 s at → Pair s at v n
   unfolding num_at
-  pair-got v n e = by-test (leb (at + 2) (length s)) refl e
+  pair_got v n e = by_test (leb (at + 2) (length s)) refl e
     where
-      by-test : (t : Bool) → leb (at + 2) (length s) ≡ t → got v n ≡ pick t (got (be_from 0 (take 2 (drop at s))) (at + 2)) (bad 3) → Pair s at v n
-      by-test true p q =
+      by_test : (t : Bool) → leb (at + 2) (length s) ≡ t → got v n ≡ pick t (got (be_from 0 (take 2 (drop at s))) (at + 2)) (bad 3) → Pair s at v n
+      by_test true p q =
           let w = leb-true (at + 2) (length s) p in
           record { within = w; behind = ap place_in q; is = ap value_in q ∙ two_bytes w }
-      by-test false p q = clash (ap is_got q)
+      by_test false p q = clash (ap is_got q)
 
-  pub pair-short : (k : ℕ) → bad k ≡ num_at 2 s at → length s < at + 2
+  pub pair_short : (k : ℕ) → bad k ≡ num_at 2 s at → length s < at + 2
   unfolding num_at
-  pair-short k e = by-test (leb (at + 2) (length s)) refl e
+  pair_short k e = by_test (leb (at + 2) (length s)) refl e
     where
-      by-test : (t : Bool) → leb (at + 2) (length s) ≡ t → bad k ≡ pick t (got (be_from 0 (take 2 (drop at s))) (at + 2)) (bad 3) → length s < at + 2
-      by-test true p q = clash (sym (ap is_got q))
-      by-test false p q = leb-false (at + 2) (length s) p
+      by_test : (t : Bool) → leb (at + 2) (length s) ≡ t → bad k ≡ pick t (got (be_from 0 (take 2 (drop at s))) (at + 2)) (bad 3) → length s < at + 2
+      by_test true p q = clash (sym (ap is_got q))
+      by_test false p q = leb-false (at + 2) (length s) p
 
 module _ (s : List ℕ) (at : ℕ) where
-  pub byte-got : at < length s → byte_at s at ≡ got (get_or s at 0) (at + 1)
+  pub byte_got : at < length s → byte_at s at ≡ got (get_or s at 0) (at + 1)
   unfolding byte_at
-  byte-got h = simp (lt-ltb _ _ h)
+  byte_got h = simp (lt-ltb _ _ h)
 
   pub byte-short : length s ≤ at → byte_at s at ≡ bad 3
   unfolding byte_at
@@ -115,25 +115,25 @@ module _ (n : ℕ) (s : List ℕ) (at : ℕ) where
   unfolding raw_of
   raw-short h = simp (lt-leb _ _ h)
 
-  pub raw-got : at + n ≤ length s → raw_of n s at ≡ take n (drop at s)
+  pub raw_got : at + n ≤ length s → raw_of n s at ≡ take n (drop at s)
   unfolding raw_of
-  raw-got h = simp (le-leb _ _ h)
+  raw_got h = simp (le-leb _ _ h)
 
   -- what a copy of the part at..end into n zeros holds
   pub raw-copied : (e : ℕ) (r : List ℕ) → at + n ≤ length s → e ≡ at + n → r ≡ take (e - at) (drop at s) → r ≡ raw_of n s at
-  raw-copied e r h p i = rw (raw-got h) (i ∙ rw (p, add-sub_cancel_left))
+  raw-copied e r h p i = rw (raw_got h) (i ∙ rw (p, add-sub_cancel_left))
 
 -- Runs of fields by one rule, as a loop walks them: i of n are read, and the next stands at p.
 module _ {A : Type 0} (f : ℕ → Parse A) (n : ℕ) (i : ℕ) (p : ℕ) (x : Parse (Unit {0})) where
-  pub runs-more : (a : A) (q : ℕ) → i < n → f p ≡ got a q → x ≡ runs f (n - i) p → x ≡ runs f (n - (i + 1)) q
+  pub runs_more : (a : A) (q : ℕ) → i < n → f p ≡ got a q → x ≡ runs f (n - i) p → x ≡ runs f (n - (i + 1)) q
   unfolding runs
-  runs-more a q h e r =
+  runs_more a q h e r =
       let m : n - i ≡ suc (n - (i + 1)) = omega arith in
       r ∙ rw m (rw e)
 
-  pub runs-stop : (k : ℕ) → i < n → f p ≡ bad k → x ≡ runs f (n - i) p → x ≡ bad k
+  pub runs_stop : (k : ℕ) → i < n → f p ≡ bad k → x ≡ runs f (n - i) p → x ≡ bad k
   unfolding runs
-  runs-stop k h e r =
+  runs_stop k h e r =
       let m : n - i ≡ suc (n - (i + 1)) = omega arith in
       r ∙ rw m (rw e)
 
@@ -143,21 +143,21 @@ module _ {A : Type 0} (f : ℕ → Parse A) (n : ℕ) (i : ℕ) (p : ℕ) (x : P
 
 -- A span: its count read, then its fields.
 module _ {A : Type 0} (f : ℕ → Parse A) (max : ℕ) (s : List ℕ) (at : ℕ) where
-  pub span-short : (k : ℕ) → byte_at s at ≡ bad k → span_at f max s at ≡ bad k
+  pub span_short : (k : ℕ) → byte_at s at ≡ bad k → span_at f max s at ≡ bad k
   unfolding span_at
-  span-short k e = rw e
+  span_short k e = rw e
 
-  pub span-many : (n p : ℕ) → byte_at s at ≡ got n p → max < n → span_at f max s at ≡ bad 4
+  pub span_many : (n p : ℕ) → byte_at s at ≡ got n p → max < n → span_at f max s at ≡ bad 4
   unfolding span_at
-  span-many n p e h = rw (e, lt-leb n max h)
+  span_many n p e h = rw (e, lt-leb n max h)
 
-  pub span-bad : (n p k : ℕ) → byte_at s at ≡ got n p → n ≤ max → runs f n p ≡ bad k → span_at f max s at ≡ bad k
+  pub span_bad : (n p k : ℕ) → byte_at s at ≡ got n p → n ≤ max → runs f n p ≡ bad k → span_at f max s at ≡ bad k
   unfolding span_at
-  span-bad n p k e h r = rw (e, le-leb n max h, r)
+  span_bad n p k e h r = rw (e, le-leb n max h, r)
 
-  pub span-got : (n p q : ℕ) → byte_at s at ≡ got n p → n ≤ max → runs f n p ≡ got tt q → span_at f max s at ≡ got (n, p) q
+  pub span_got : (n p q : ℕ) → byte_at s at ≡ got n p → n ≤ max → runs f n p ≡ got tt q → span_at f max s at ≡ got (n, p) q
   unfolding span_at
-  span-got n p q e h r = rw (e, le-leb n max h, r)
+  span_got n p q e h r = rw (e, le-leb n max h, r)
 
 -- Lists of values w bytes apart, as a loop fills an array with them.
 module _ {A : Type 0} (f : ℕ → A) (w : ℕ) where
@@ -179,31 +179,31 @@ module _ {A : Type 0} (f : ℕ → A) (w : ℕ) where
   list-next n p = rw add-one (list-suc n p)
 
   -- the array with one value more
-  pub list-more : (m : ℕ) (z : A) (i p q : ℕ) (l : List A) (v : A) → i < m → q ≡ p + i * w → v ≡ f q
+  pub list_more : (m : ℕ) (z : A) (i p q : ℕ) (l : List A) (v : A) → i < m → q ≡ p + i * w → v ≡ f q
       → l ≡ padded m z (list_of f w i p) → set l i v ≡ padded m z (list_of f w (i + 1) p)
-  list-more m z i p q l v h e d r =
+  list_more m z i p q l v h e d r =
       let n : length (list_of f w i p) ≡ i = list_length i p in
       let g : length (list_of f w i p) < m = omega arith in
       let a : set l i v ≡ set (padded m z (list_of f w i p)) (length (list_of f w i p)) v =
       ap (λ (x : List A). set x i v) r ∙ ap (λ (k : ℕ). set (padded m z (list_of f w i p)) k v) (sym n) in
-      rw (list-next i p, ← e, ← d) (a ∙ padded-push z m (list_of f w i p) v g)
+      rw (list-next i p, ← e, ← d) (a ∙ padded_push z m (list_of f w i p) v g)
 
   module _ (max : ℕ) (s : List ℕ) (n p : ℕ) where
-    pub many-over : max < n → many_of f w max s n p ≡ []
+    pub many_over : max < n → many_of f w max s n p ≡ []
     unfolding many_of
-    many-over h = rw (lt-leb _ _ h)
+    many_over h = rw (lt-leb _ _ h)
 
-    pub many-short : n ≤ max → length s < p + n * w → many_of f w max s n p ≡ []
+    pub many_short : n ≤ max → length s < p + n * w → many_of f w max s n p ≡ []
     unfolding many_of
-    many-short h k = rw (le-leb _ _ h, lt-leb _ _ k)
+    many_short h k = rw (le-leb _ _ h, lt-leb _ _ k)
 
-    pub many-got : n ≤ max → p + n * w ≤ length s → many_of f w max s n p ≡ list_of f w n p
+    pub many_got : n ≤ max → p + n * w ≤ length s → many_of f w max s n p ≡ list_of f w n p
     unfolding many_of
-    many-got h k = rw (le-leb _ _ h, le-leb _ _ k)
+    many_got h k = rw (le-leb _ _ h, le-leb _ _ k)
 
   -- nothing, nowhere
-  pub many-none : (max : ℕ) (s : List ℕ) → many_of f w max s 0 0 ≡ []
-  many-none max s = many-got max s 0 0 (omega arith) (omega arith) ∙ list-none 0
+  pub many_none : (max : ℕ) (s : List ℕ) → many_of f w max s 0 0 ≡ []
+  many_none max s = many_got max s 0 0 (omega arith) (omega arith) ∙ list-none 0
 
 -- A field of w bytes, by its place and by its value: had by both where there is room, or refused by both.
 pub data Agree {A : Type 0} (w limit p : ℕ) (f : Parse ℕ) (g : Parse A) (v : A) : Type 0 where
@@ -229,17 +229,17 @@ flat g (bad r) f k e = e
 
 module _ {A : Type 0} (f : ℕ → Parse ℕ) (g : ℕ → Parse A) (v : ℕ → A) (w limit : ℕ) (h : (p : ℕ) → Agree w limit p (f p) (g p) (v p)) where
   -- one by its place is one by its value
-  pub place-value : (p : ℕ) → mapped v (f p) ≡ g p
-  place-value p = go (h p)
+  pub place_value : (p : ℕ) → mapped v (f p) ≡ g p
+  place_value p = go (h p)
     where
       go : Agree w limit p (f p) (g p) (v p) → mapped v (f p) ≡ g p
       go (had r a b) = rw (a, b)
       go (refused k a b) = rw (a, b)
 
-  runs-values : (n p : ℕ) → bind (runs f n p) (λ _ q. got (list_of v w n p) q) ≡ many_at g n p
+  runs_values : (n p : ℕ) → bind (runs f n p) (λ _ q. got (list_of v w n p) q) ≡ many_at g n p
   unfolding runs list_of many_at
-  runs-values zero p = refl
-  runs-values (suc n) p = go (runs-values n (p + w)) (h p)
+  runs_values zero p = refl
+  runs_values (suc n) p = go (runs_values n (p + w)) (h p)
     where
       tail : (x : A) (r : Parse (Unit {0})) (xs : List A) → bind r (λ _ q. got (x ∷ xs) q) ≡ bind (bind r (λ _ q. got xs q)) (λ ys q. got (x ∷ ys) q)
       tail x (got t n) xs = refl
@@ -268,17 +268,17 @@ module _ {A : Type 0} (f : ℕ → Parse ℕ) (g : ℕ → Parse A) (v : ℕ →
 module _ {A : Type 0} (f : ℕ → Parse ℕ) (g : ℕ → Parse A) (v : ℕ → A) (w max : ℕ) (s : List ℕ) (h : (p : ℕ) → Agree w (length s) p (f p) (g p) (v p)) where
   span_run : (n p : ℕ) (r : Parse (Unit {0})) → runs f n p ≡ r → n ≤ max → p ≤ length s
       → mapped (λ (m : ℕ × ℕ). many_of v w max s m.0 m.1) (bind r (λ _ q. got (n, p) q)) ≡ bind r (λ _ q. got (list_of v w n p) q)
-  span_run n p (got t q) e k l = rw (many-got v w max s n p k (runs-room f g v w (length s) h n p t q l e))
+  span_run n p (got t q) e k l = rw (many_got v w max s n p k (runs-room f g v w (length s) h n p t q l e))
   span_run n p (bad r) e k l = refl
 
-  span-counted : (n p : ℕ) (b : Bool) → leb n max ≡ b → p ≤ length s
+  span_counted : (n p : ℕ) (b : Bool) → leb n max ≡ b → p ≤ length s
       → mapped (λ (m : ℕ × ℕ). many_of v w max s m.0 m.1) (pick b (bind (runs f n p) (λ _ q. got (n, p) q)) (bad 4)) ≡ pick b (many_at g n p) (bad 4)
-  span-counted n p true e l = span_run n p (runs f n p) refl (leb-true n max e) l ∙ runs-values f g v w (length s) h n p
-  span-counted n p false e l = refl
+  span_counted n p true e l = span_run n p (runs f n p) refl (leb-true n max e) l ∙ runs_values f g v w (length s) h n p
+  span_counted n p false e l = refl
 
-  pub span-values : (at : ℕ) → mapped (λ (m : ℕ × ℕ). many_of v w max s m.0 m.1) (span_at f max s at) ≡ list_at g max s at
+  pub span_values : (at : ℕ) → mapped (λ (m : ℕ × ℕ). many_of v w max s m.0 m.1) (span_at f max s at) ≡ list_at g max s at
   unfolding span_at list_at byte_at
-  span-values at = go (ltb at (length s)) refl
+  span_values at = go (ltb at (length s)) refl
     where
       go : (b : Bool) → ltb at (length s) ≡ b
           → mapped (λ (m : ℕ × ℕ). many_of v w max s m.0 m.1)
@@ -286,5 +286,5 @@ module _ {A : Type 0} (f : ℕ → Parse ℕ) (g : ℕ → Parse A) (v : ℕ →
           ≡ bind (pick b (got (get_or s at 0) (at + 1)) (bad 3)) (λ n p. pick (leb n max) (many_at g n p) (bad 4))
       go true e =
           let l : at + 1 ≤ length s = omega (arith, ltb-true at (length s) e) in
-          span-counted (get_or s at 0) (at + 1) (leb (get_or s at 0) max) refl l
+          span_counted (get_or s at 0) (at + 1) (leb (get_or s at 0) max) refl l
       go false e = refl

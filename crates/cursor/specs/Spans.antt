@@ -1,5 +1,5 @@
 -- Lists by their places: a count and the first one's place, and the values that stand there. Reading the places first and
--- copying after is reading the values: proofs/Laws, `span-values`.
+-- copying after is reading the values: proofs/Laws, `span_values`.
 use Rattle.std.specs.Prelude.{ℕ, zero, suc, ◌+◌, ◌*◌, List, [], ◌∷◌, leb, length}
 use Rattle.lists.specs.Lists.{pick, both}
 use Rattle.format.specs.Parse.{Parse, got, bad, bind, byte_at}

@@ -54,42 +54,42 @@ unfolding Gives
 gives_weaker P Q g f p at = outcome_weaker P Q g (f at) (p at)
 
 module _ {A : Type 0} (P : A → Type 0) where
-  pub gives-got : (a : A) → P a → Gives P (got a)
+  pub gives_got : (a : A) → P a → Gives P (got a)
   unfolding Gives
-  gives-got a p at = p
+  gives_got a p at = p
 
-  pub gives-bad : (r : ℕ) → 3 ≤ r → r ≤ 4 → Gives P (λ at. bad r)
+  pub gives_bad : (r : ℕ) → 3 ≤ r → r ≤ 4 → Gives P (λ at. bad r)
   unfolding Gives
-  gives-bad r h g at = (h, g)
+  gives_bad r h g at = (h, g)
 
   -- what is tested holds of what is got
-  pub outcome-pick : (b : Bool) (x y : Parse A) → (b ≡ true → Outcome P x) → Outcome P y → Outcome P (pick b x y)
-  outcome-pick true x y p q = p refl
-  outcome-pick false x y p q = q
+  pub outcome_pick : (b : Bool) (x y : Parse A) → (b ≡ true → Outcome P x) → Outcome P y → Outcome P (pick b x y)
+  outcome_pick true x y p q = p refl
+  outcome_pick false x y p q = q
 
-  pub gives-pick : (b : Bool) (f g : ℕ → Parse A) → (b ≡ true → Gives P f) → Gives P g → Gives P (λ at. pick b (f at) (g at))
+  pub gives_pick : (b : Bool) (f g : ℕ → Parse A) → (b ≡ true → Gives P f) → Gives P g → Gives P (λ at. pick b (f at) (g at))
   unfolding Gives
-  gives-pick b f g p q at = outcome-pick b (f at) (g at) (λ e. p e at) (q at)
+  gives_pick b f g p q at = outcome_pick b (f at) (g at) (λ e. p e at) (q at)
 
-  pub gives-classed : (b : Bool) (a : A) → (b ≡ true → P a) → Gives P (classed b a)
-  gives-classed b a p = gives-pick b (got a) (λ at. bad 3) (λ e. gives-got a (p e)) (gives-bad 3 (omega arith) (omega arith))
+  pub gives_classed : (b : Bool) (a : A) → (b ≡ true → P a) → Gives P (classed b a)
+  gives_classed b a p = gives_pick b (got a) (λ at. bad 3) (λ e. gives_got a (p e)) (gives_bad 3 (omega arith) (omega arith))
 
-  pub gives-ended : (s : List ℕ) (a : A) → P a → Gives P (ended s a)
+  pub gives_ended : (s : List ℕ) (a : A) → P a → Gives P (ended s a)
   unfolding Gives ended
-  gives-ended s a p at = outcome-pick (eqb at (length s)) (got a at) (bad 3) (λ e. p) (omega arith, omega arith)
+  gives_ended s a p at = outcome_pick (eqb at (length s)) (got a at) (bad 3) (λ e. p) (omega arith, omega arith)
 
 -- ---- numbers and bytes
 pub gives_byte : (s : List ℕ) → Gives Some (byte_at s)
 unfolding Gives byte_at
-gives_byte s at = outcome-pick Some (ltb at (length s)) _ (bad 3) (λ e. tt) (omega arith, omega arith)
+gives_byte s at = outcome_pick Some (ltb at (length s)) _ (bad 3) (λ e. tt) (omega arith, omega arith)
 
 pub gives_number : (w : ℕ) (s : List ℕ) → Gives Some (num_at w s)
 unfolding Gives num_at
-gives_number w s at = outcome-pick Some (leb (at + w) (length s)) _ (bad 3) (λ e. tt) (omega arith, omega arith)
+gives_number w s at = outcome_pick Some (leb (at + w) (length s)) _ (bad 3) (λ e. tt) (omega arith, omega arith)
 
 pub gives_raw : (w : ℕ) (s : List ℕ) → Gives Some (raw_at w s)
 unfolding Gives raw_at
-gives_raw w s at = outcome-pick Some (leb (at + w) (length s)) _ (bad 3) (λ e. tt) (omega arith, omega arith)
+gives_raw w s at = outcome_pick Some (leb (at + w) (length s)) _ (bad 3) (λ e. tt) (omega arith, omega arith)
 
 -- ---- fields by one rule: so many or few enough, each with the property
 abbrev pub Many : {A : Type 0} → (A → Type 0) → ℕ → List A → Type 0
@@ -99,18 +99,18 @@ abbrev pub Few : {A : Type 0} → (A → Type 0) → ℕ → List A → Type 0
 Few P limit xs = Each P xs × (length xs ≤ limit)
 
 module _ {A : Type 0} (P : A → Type 0) (f : ℕ → Parse A) (p : Gives P f) where
-  pub gives-many : (n : ℕ) → Gives (Many P n) (many_at f n)
+  pub gives_many : (n : ℕ) → Gives (Many P n) (many_at f n)
   unfolding Gives many_at
-  gives-many zero at = (tt, refl)
-  gives-many (suc n) at =
+  gives_many zero at = (tt, refl)
+  gives_many (suc n) at =
       outcome_bind P (Many P (suc n)) (f at) _ (p at)
-      (λ x k h. outcome_bind (Many P n) (Many P (suc n)) (many_at f n k) _ (gives-many n k)
+      (λ x k h. outcome_bind (Many P n) (Many P (suc n)) (many_at f n k) _ (gives_many n k)
       (λ xs j m. ((h, m.0), ap suc m.1)))
 
-  pub gives-list : (limit : ℕ) (s : List ℕ) → Gives (Few P limit) (list_at f limit s)
+  pub gives_list : (limit : ℕ) (s : List ℕ) → Gives (Few P limit) (list_at f limit s)
   unfolding list_at
-  gives-list limit s =
+  gives_list limit s =
       gives_then Some (Few P limit) (byte_at s) _ (gives_byte s)
-      (λ n u. gives-pick (Few P limit) (leb n limit) (many_at f n) (λ at. bad 4)
-      (λ e. let h : n ≤ limit = leb-true n limit e in gives_weaker (Many P n) (Few P limit) (λ xs m. (m.0, let l = m.1 in omega arith)) (many_at f n) (gives-many n))
-      (gives-bad (Few P limit) 4 (omega arith) (omega arith)))
+      (λ n u. gives_pick (Few P limit) (leb n limit) (many_at f n) (λ at. bad 4)
+      (λ e. let h : n ≤ limit = leb-true n limit e in gives_weaker (Many P n) (Few P limit) (λ xs m. (m.0, let l = m.1 in omega arith)) (many_at f n) (gives_many n))
+      (gives_bad (Few P limit) 4 (omega arith) (omega arith)))

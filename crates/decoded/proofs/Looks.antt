@@ -78,18 +78,18 @@ looks_then more E P w v f k s at p l c = (
 )
 
 module _ {A B : Type 0} (w v : ℕ) (f : List ℕ → ℕ → Parse A) (k : A → List ℕ → ℕ → Parse B) (l : Local w f) where
-  pub local-then : ((a : A) → Local v (k a)) → Local (w + v) (λ s. ◌>>=◌ (f s) (λ a. k a s))
+  pub local_then : ((a : A) → Local v (k a)) → Local (w + v) (λ s. ◌>>=◌ (f s) (λ a. k a s))
   unfolding Local
-  local-then c s at = looks_then 0 Inside Some w v f k s at (has_some (f s at)) (l s at) (λ a q r. c a s q)
+  local_then c s at = looks_then 0 Inside Some w v f k s at (has_some (f s at)) (l s at) (λ a q r. c a s q)
 
   -- where the second field's width rests on what the first is
-  pub local-where : (P : A → Type 0) → ((s : List ℕ) → Gives P (f s)) → ((a : A) → P a → Local v (k a)) → Local (w + v) (λ s. ◌>>=◌ (f s) (λ a. k a s))
+  pub local_where : (P : A → Type 0) → ((s : List ℕ) → Gives P (f s)) → ((a : A) → P a → Local v (k a)) → Local (w + v) (λ s. ◌>>=◌ (f s) (λ a. k a s))
   unfolding Local Gives
-  local-where P p c s at = looks_then 0 Inside P w v f k s at (has-given P (f s at) (p s at)) (l s at) (λ a q r. c a r s q)
+  local_where P p c s at = looks_then 0 Inside P w v f k s at (has-given P (f s at) (p s at)) (l s at) (λ a q r. c a r s q)
 
-  pub closed-then : ((a : A) → Closed v (k a)) → Closed (w + v) (λ s. ◌>>=◌ (f s) (λ a. k a s))
+  pub closed_then : ((a : A) → Closed v (k a)) → Closed (w + v) (λ s. ◌>>=◌ (f s) (λ a. k a s))
   unfolding Local Closed
-  closed-then c s at = looks_then 1 AtEnd Some w v f k s at (has_some (f s at)) (l s at) (λ a q r. c a s q)
+  closed_then c s at = looks_then 1 AtEnd Some w v f k s at (has_some (f s at)) (l s at) (λ a q r. c a s q)
 
 -- ---- what looks at nothing
 pub local_bad : (A : Type 0) (w r : ℕ) → Local {A = A} w (λ s at. bad r)
@@ -97,27 +97,27 @@ unfolding Local
 local_bad A w r s at = (λ n h g. refl, tt)
 
 module _ {A : Type 0} where
-  pub local-got : (a : A) → Local 0 (λ s. got a)
+  pub local_got : (a : A) → Local 0 (λ s. got a)
   unfolding Local
-  local-got a s at = (λ n h g. refl, (omega arith, tt))
+  local_got a s at = (λ n h g. refl, (omega arith, tt))
 
   -- a test that does not look, and a refusal where it fails
-  looks-pick : (w r : ℕ) (b : Bool) (f : List ℕ → ℕ → Parse A) (s : List ℕ) (at : ℕ) → (b ≡ true → Looks 0 Inside w f s at)
+  looks_pick : (w r : ℕ) (b : Bool) (f : List ℕ → ℕ → Parse A) (s : List ℕ) (at : ℕ) → (b ≡ true → Looks 0 Inside w f s at)
       → Looks 0 Inside w (λ t p. pick b (f t p) (bad r)) s at
-  looks-pick w r true f s at l = l refl
-  looks-pick w r false f s at l = (λ n h g. refl, tt)
+  looks_pick w r true f s at l = l refl
+  looks_pick w r false f s at l = (λ n h g. refl, tt)
 
-  pub local-pick : (w r : ℕ) (b : Bool) (f : List ℕ → ℕ → Parse A) → (b ≡ true → Local w f) → Local w (λ s at. pick b (f s at) (bad r))
+  pub local_pick : (w r : ℕ) (b : Bool) (f : List ℕ → ℕ → Parse A) → (b ≡ true → Local w f) → Local w (λ s at. pick b (f s at) (bad r))
   unfolding Local
-  local-pick w r b f l s at = looks-pick w r b f s at (λ e. l e s at)
+  local_pick w r b f l s at = looks_pick w r b f s at (λ e. l e s at)
 
-  pub local-classed : (b : Bool) (a : A) → Local 0 (λ s. classed b a)
-  local-classed b a = local-pick 0 3 b (λ s. got a) (λ e. local-got a)
+  pub local_classed : (b : Bool) (a : A) → Local 0 (λ s. classed b a)
+  local_classed b a = local_pick 0 3 b (λ s. got a) (λ e. local_got a)
 
   -- a wider bound
-  pub local-wider : (w v : ℕ) (f : List ℕ → ℕ → Parse A) → w ≤ v → Local w f → Local v f
+  pub local_wider : (w v : ℕ) (f : List ℕ → ℕ → Parse A) → w ≤ v → Local w f → Local v f
   unfolding Local
-  local-wider w v f h l s at = (λ n j g. (l s at).0 n (omega arith) g, ends_later (λ q. Unit) (at + w) (at + v) (f s at) h' (l s at).1)
+  local_wider w v f h l s at = (λ n j g. (l s at).0 n (omega arith) g, ends_later (λ q. Unit) (at + w) (at + v) (f s at) h' (l s at).1)
     where
       h' : at + w ≤ at + v
       h' = omega arith
@@ -145,9 +145,9 @@ local_byte s at = (
 )
 
 module _ (w : ℕ) where
-  pub local-number : Local w (num_at w)
+  pub local_number : Local w (num_at w)
   unfolding Local num_at
-  local-number s at = (
+  local_number s at = (
     λ n h g.
         let i : at + w ≤ n = omega arith in
         let j : at + w ≤ length s = omega arith in
@@ -155,9 +155,9 @@ module _ (w : ℕ) where
     ends_pick (leb (at + w) (length s)) (at + w) (at + w) _ (omega arith),
   )
 
-  pub local-raw : Local w (raw_at w)
+  pub local_raw : Local w (raw_at w)
   unfolding Local raw_at
-  local-raw s at = (
+  local_raw s at = (
     λ n h g.
         let i : at + w ≤ n = omega arith in
         let j : at + w ≤ length s = omega arith in
@@ -167,22 +167,22 @@ module _ (w : ℕ) where
 
 -- ---- fields by one rule
 module _ {A : Type 0} (w : ℕ) (f : List ℕ → ℕ → Parse A) (l : Local w f) where
-  pub local-many : (n : ℕ) → Local (n * w) (λ s. many_at (f s) n)
+  pub local_many : (n : ℕ) → Local (n * w) (λ s. many_at (f s) n)
   unfolding many_at
-  local-many zero = rw zero-mul (local-got [])
-  local-many (suc n) =
+  local_many zero = rw zero-mul (local_got [])
+  local_many (suc n) =
       let e : suc n * w ≡ w + (n * w + 0) = suc-mul n w ∙ omega arith in
       rw e
-      (local-then w (n * w + 0) f _ l
-      (λ x. local-then (n * w) 0 (λ s. many_at (f s) n) _ (local-many n)
-      (λ xs. local-got (x ∷ xs))))
+      (local_then w (n * w + 0) f _ l
+      (λ x. local_then (n * w) 0 (λ s. many_at (f s) n) _ (local_many n)
+      (λ xs. local_got (x ∷ xs))))
 
-  pub local-list : (limit : ℕ) → Local (1 + limit * w) (λ s. list_at (f s) limit s)
+  pub local_list : (limit : ℕ) → Local (1 + limit * w) (λ s. list_at (f s) limit s)
   unfolding list_at
-  local-list limit =
-      local-then 1 (limit * w) byte_at _ local_byte
-      (λ n. local-pick (limit * w) 4 (leb n limit) (λ s. many_at (f s) n)
-      (λ e. local-wider (n * w) (limit * w) (λ s. many_at (f s) n) (mul-le-mul_right w (leb-true n limit e)) (local-many n)))
+  local_list limit =
+      local_then 1 (limit * w) byte_at _ local_byte
+      (λ n. local_pick (limit * w) 4 (leb n limit) (λ s. many_at (f s) n)
+      (λ e. local_wider (n * w) (limit * w) (λ s. many_at (f s) n) (mul-le-mul_right w (leb-true n limit e)) (local_many n)))
 
 -- ---- nothing behind it
 pub closed_ended : {A : Type 0} (a : A) → Closed 0 (λ s. ended s a)
@@ -192,9 +192,9 @@ closed_ended a s at = (
       let i : at ≡ n → ⊥ = λ e. omega arith in
       let j : at ≡ length s → ⊥ = λ e. omega arith in
       rw (length-take-le n s g, ne_eqb at n i, ne_eqb at (length s) j),
-  at-end (eqb at (length s)) refl,
+  at_end (eqb at (length s)) refl,
 )
   where
-    at-end : (b : Bool) → eqb at (length s) ≡ b → Ends (AtEnd s) (at + 0) (pick b (got a at) (bad 3))
-    at-end true e = (omega arith, eqb-true at (length s) e)
-    at-end false e = tt
+    at_end : (b : Bool) → eqb at (length s) ≡ b → Ends (AtEnd s) (at + 0) (pick b (got a at) (bad 3))
+    at_end true e = (omega arith, eqb-true at (length s) e)
+    at_end false e = tt

@@ -43,7 +43,7 @@ use Rattle.format.specs.Fields.{sn_at, item_at, items_at, trait_at, config_at, f
 use Rattle.layout.specs.Records.{first_head_at, later_head_at, authority_at, commitment_at, tail_at, inception_body_at, inception_at, rotation_body_at, rotation_at, interaction_at, no_body, delegated, latest_at, snapshot_at}
 use Rattle.layout.specs.Records.{Content, event, refusal, as_event, as_snapshot, content_of}
 use Rattle.decoded.specs.Decoded.{Shaped}
-use Rattle.decoded.proofs.Gives.{Outcome, Gives, Some, Each, Many, Few, each_all, gives_then, gives_weaker, gives-got, gives-bad, gives-pick, gives-classed, gives-ended, gives_byte, gives_number, gives_raw, gives-many, gives-list}
+use Rattle.decoded.proofs.Gives.{Outcome, Gives, Some, Each, Many, Few, each_all, gives_then, gives_weaker, gives_got, gives_bad, gives_pick, gives_classed, gives_ended, gives_byte, gives_number, gives_raw, gives_many, gives_list}
 
 -- ---- a list in an array has no fault where its elements have none
 all_replicate : {A : Type 0} (f : A → Bool) (n : ℕ) (z : A) → f z ≡ true → all f (replicate n z) ≡ true
@@ -52,12 +52,12 @@ all_replicate f zero z e = refl
 all_replicate f (suc n) z e = rw e (all_replicate f n z e)
 
 module _ {A : Type 0} (fits is_none : A → Bool) (z : A) (none : is_none z ≡ true) (n : ℕ) (xs : List A) where
-  padded-rest : all is_none (drop (length xs) (padded n z xs)) ≡ true
-  padded-rest = rw (padded-unused z n xs) (all_replicate is_none (n - length xs) z none)
+  padded_rest : all is_none (drop (length xs) (padded n z xs)) ≡ true
+  padded_rest = rw (padded-unused z n xs) (all_replicate is_none (n - length xs) z none)
 
   padded-shape : all fits xs ≡ true → length xs ≤ n
       → ◌≡◌ {A = ℕ} (pick (leb (length xs) n) (pick (all fits (take (length xs) (padded n z xs))) (pick (all is_none (drop (length xs) (padded n z xs))) 0 3) 3) 4) 0
-  padded-shape e h = rw (le-leb (length xs) n h, padded-used z n xs, e, padded-rest)
+  padded-shape e h = rw (le-leb (length xs) n h, padded-used z n xs, e, padded_rest)
 
 zero_item_lem : is_zero zero_item ≡ true
 unfolding same_item same_numbers
@@ -70,7 +70,7 @@ zero-siger = refl
 -- ---- fields
 gives_sn : (s : List ℕ) → Gives Some (sn_at s)
 unfolding sn_at
-gives_sn s = gives_then Some Some (num_at 8 s) _ (gives_number 8 s) (λ a u. gives_then Some Some (num_at 8 s) _ (gives_number 8 s) (λ b v. gives-got Some _ tt))
+gives_sn s = gives_then Some Some (num_at 8 s) _ (gives_number 8 s) (λ a u. gives_then Some Some (num_at 8 s) _ (gives_number 8 s) (λ b v. gives_got Some _ tt))
 
 abbrev pub Fits : Kind → Item → Type 0
 Fits k x = item_fits k x ≡ true
@@ -80,7 +80,7 @@ unfolding item_at
 gives_item k s =
     gives_then Some (Fits k) (byte_at s) _ (gives_byte s)
     (λ code u. gives_then Some (Fits k) (raw_at 32 s) _ (gives_raw 32 s)
-    (λ raw v. gives-classed (Fits k) (fits_of k code) _ (λ e. e)))
+    (λ raw v. gives_classed (Fits k) (fits_of k code) _ (λ e. e)))
 
 abbrev GoodItems : Kind → Items → Type 0
 GoodItems k l = items.shape_of k l ≡ 0
@@ -92,15 +92,15 @@ items_shape k xs p = padded-shape (item_fits k) is_zero zero_item zero_item_lem 
 pub gives_items : (k : Kind) (s : List ℕ) → Gives (GoodItems k) (items_at k s)
 unfolding items_at
 gives_items k s =
-    gives_then (Few (Fits k) 16) (GoodItems k) (list_at (item_at k s) 16 s) _ (gives-list (Fits k) (item_at k s) (gives_item k s) 16 s)
-    (λ xs p. gives-got (GoodItems k) (items.packed xs) (items_shape k xs p))
+    gives_then (Few (Fits k) 16) (GoodItems k) (list_at (item_at k s) 16 s) _ (gives_list (Fits k) (item_at k s) (gives_item k s) 16 s)
+    (λ xs p. gives_got (GoodItems k) (items.packed xs) (items_shape k xs p))
 
 abbrev pub Trait : ℕ → Type 0
 Trait t = config.is_trait t ≡ true
 
 pub gives_trait : (s : List ℕ) → Gives Trait (trait_at s)
 unfolding trait_at
-gives_trait s = gives_then Some Trait (byte_at s) _ (gives_byte s) (λ t u. gives-classed Trait (config.is_trait t) t (λ e. e))
+gives_trait s = gives_then Some Trait (byte_at s) _ (gives_byte s) (λ t u. gives_classed Trait (config.is_trait t) t (λ e. e))
 
 abbrev GoodConfig : Config → Type 0
 GoodConfig c = config.shape_of c ≡ 0
@@ -112,12 +112,12 @@ config_shape ts p = padded-shape config.is_trait (eqb 0) 0 refl 8 ts (each_all c
 pub gives_config : (s : List ℕ) → Gives GoodConfig (config_at s)
 unfolding config_at
 gives_config s =
-    gives_then (Few Trait 8) GoodConfig (list_at (trait_at s) 8 s) _ (gives-list Trait (trait_at s) (gives_trait s) 8 s)
-    (λ ts p. gives-got GoodConfig (config.packed_traits ts) (config_shape ts p))
+    gives_then (Few Trait 8) GoodConfig (list_at (trait_at s) 8 s) _ (gives_list Trait (trait_at s) (gives_trait s) 8 s)
+    (λ ts p. gives_got GoodConfig (config.packed_traits ts) (config_shape ts p))
 
 pub gives_flag : (s : List ℕ) → Gives Some (flag_at s)
 unfolding flag_at
-gives_flag s = gives_then Some Some (byte_at s) _ (gives_byte s) (λ b u. gives-classed Some (leb b 1) (eqb b 1) (λ e. tt))
+gives_flag s = gives_then Some Some (byte_at s) _ (gives_byte s) (λ b u. gives_classed Some (leb b 1) (eqb b 1) (λ e. tt))
 
 -- ---- thresholds
 abbrev GoodThreshold : Threshold → Type 0
@@ -133,13 +133,13 @@ Sizes n sum zs = (length zs ≡ n) × (sum + total zs ≤ 16)
 
 gives_sizes : (s : List ℕ) (n sum : ℕ) → sum ≤ 16 → Gives (Sizes n sum) (sizes_at s n sum)
 unfolding sizes_at total
-gives_sizes s zero sum h = gives-got (Sizes 0 sum) [] (refl, omega arith)
+gives_sizes s zero sum h = gives_got (Sizes 0 sum) [] (refl, omega arith)
 gives_sizes s (suc n) sum h =
     gives_then Some (Sizes (suc n) sum) (byte_at s) _ (gives_byte s)
-    (λ z u. gives-pick (Sizes (suc n) sum) (leb (sum + z) 16) _ (λ at. bad 4)
+    (λ z u. gives_pick (Sizes (suc n) sum) (leb (sum + z) 16) _ (λ at. bad 4)
     (λ e. gives_then (Sizes n (sum + z)) (Sizes (suc n) sum) (sizes_at s n (sum + z)) _ (gives_sizes s n (sum + z) (leb-true (sum + z) 16 e))
-    (λ zs p. gives-got (Sizes (suc n) sum) (z ∷ zs) (ap suc p.0, let q = p.1 in omega arith)))
-    (gives-bad (Sizes (suc n) sum) 4 (omega arith) (omega arith)))
+    (λ zs p. gives_got (Sizes (suc n) sum) (z ∷ zs) (ap suc p.0, let q = p.1 in omega arith)))
+    (gives_bad (Sizes (suc n) sum) 4 (omega arith) (omega arith)))
 
 abbrev pub Clauses : List ℕ → Type 0
 Clauses zs = (length zs ≤ 16) × (total zs ≤ 16)
@@ -148,13 +148,13 @@ pub gives_clauses : (s : List ℕ) → Gives Clauses (clauses_at s)
 unfolding clauses_at
 gives_clauses s =
     gives_then Some Clauses (byte_at s) _ (gives_byte s)
-    (λ n u. gives-pick Clauses (leb n 16) (sizes_at s n 0) (λ at. bad 4)
+    (λ n u. gives_pick Clauses (leb n 16) (sizes_at s n 0) (λ at. bad 4)
     (λ e. let h = leb-true n 16 e in gives_weaker (Sizes n 0) Clauses (λ zs p. let l = p.0 in let q = p.1 in (omega arith, omega arith)) (sizes_at s n 0) (gives_sizes s n 0 (omega arith)))
-    (gives-bad Clauses 4 (omega arith) (omega arith)))
+    (gives_bad Clauses 4 (omega arith) (omega arith)))
 
 gives_weight : (s : List ℕ) → Gives Some (weight_at s)
 unfolding weight_at
-gives_weight s = gives_then Some Some (num_at 8 s) _ (gives_number 8 s) (λ a u. gives_then Some Some (num_at 8 s) _ (gives_number 8 s) (λ b v. gives-got Some _ tt))
+gives_weight s = gives_then Some Some (num_at 8 s) _ (gives_number 8 s) (λ a u. gives_then Some Some (num_at 8 s) _ (gives_number 8 s) (λ b v. gives_got Some _ tt))
 
 total-sum : (zs : List ℕ) → threshold.sum zs ≡ total zs
 unfolding total threshold.sum
@@ -169,16 +169,16 @@ unfolding threshold.shape_of
 weighted-shape zs ws c l =
     let n : threshold.sum zs ≡ length ws = total-sum zs ∙ sym l in
     let light : length ws ≤ 16 = let q = c.1 in omega arith in
-    rw (padded-used 0 16 zs, n, le-leb (length zs) 16 c.0, le-leb (length ws) 16 light, padded-rest (eqb 0) (eqb 0) 0 refl 16 zs, padded-rest zero_weight zero_weight no_weight refl 16 ws)
+    rw (padded-used 0 16 zs, n, le-leb (length zs) 16 c.0, le-leb (length ws) 16 light, padded_rest (eqb 0) (eqb 0) 0 refl 16 zs, padded_rest zero_weight zero_weight no_weight refl 16 ws)
 
 gives_as : (tag : ℕ) (s : List ℕ) → Gives GoodThreshold (threshold_as tag s)
 unfolding threshold_as
-gives_as zero s = gives_then Some GoodThreshold (num_at 8 s) _ (gives_number 8 s) (λ n u. gives-got GoodThreshold (simple n) (simple-shape n))
+gives_as zero s = gives_then Some GoodThreshold (num_at 8 s) _ (gives_number 8 s) (λ n u. gives_got GoodThreshold (simple n) (simple-shape n))
 gives_as (suc zero) s =
     gives_then Clauses GoodThreshold (clauses_at s) _ (gives_clauses s)
-    (λ zs c. gives_then (Many Some (total zs)) GoodThreshold (many_at (weight_at s) (total zs)) _ (gives-many Some (weight_at s) (gives_weight s) (total zs))
-    (λ ws p. gives-got GoodThreshold (weighted zs ws) (weighted-shape zs ws c p.1)))
-gives_as (suc (suc n)) s = gives-bad GoodThreshold 3 (omega arith) (omega arith)
+    (λ zs c. gives_then (Many Some (total zs)) GoodThreshold (many_at (weight_at s) (total zs)) _ (gives_many Some (weight_at s) (gives_weight s) (total zs))
+    (λ ws p. gives_got GoodThreshold (weighted zs ws) (weighted-shape zs ws c p.1)))
+gives_as (suc (suc n)) s = gives_bad GoodThreshold 3 (omega arith) (omega arith)
 
 pub gives_threshold : (s : List ℕ) → Gives GoodThreshold (threshold_at s)
 unfolding threshold_at
@@ -193,7 +193,7 @@ Ondex dual n = either dual (eqb n 0) ≡ true
 
 gives_ondex : (dual : Bool) (s : List ℕ) → Gives (Ondex dual) (ondex_at dual s)
 unfolding ondex_at
-gives_ondex dual s = gives_then Some (Ondex dual) (num_at 4 s) _ (gives_number 4 s) (λ n u. gives-classed (Ondex dual) (either dual (eqb n 0)) n (λ e. e))
+gives_ondex dual s = gives_then Some (Ondex dual) (num_at 4 s) _ (gives_number 4 s) (λ n u. gives_classed (Ondex dual) (either dual (eqb n 0)) n (λ e. e))
 
 gives_siger : (s : List ℕ) → Gives OndexFits (siger_at s)
 unfolding siger_at
@@ -205,7 +205,7 @@ gives_siger s =
     (λ ondex o. gives_then Some OndexFits (raw_at 64 s) _ (gives_raw 64 s)
     (λ raw x. gives_then Some OndexFits (flag_at s) _ (gives_flag s)
     (λ verified y. gives_then Some OndexFits (flag_at s) _ (gives_flag s)
-    (λ matches z. gives-got OndexFits _ o)))))))
+    (λ matches z. gives_got OndexFits _ o)))))))
 
 abbrev pub GoodSigers : Sigers → Type 0
 GoodSigers l = verification.shape_of l ≡ 0
@@ -217,8 +217,8 @@ sigers-shape xs p = padded-shape ondex_fits zero_siger no_siger zero-siger 48 xs
 pub gives_sigers : (s : List ℕ) → Gives GoodSigers (sigers_at s)
 unfolding sigers_at
 gives_sigers s =
-    gives_then (Few OndexFits 48) GoodSigers (list_at (siger_at s) 48 s) _ (gives-list OndexFits (siger_at s) (gives_siger s) 48 s)
-    (λ xs p. gives-got GoodSigers (verification.packed_sigers xs) (sigers-shape xs p))
+    gives_then (Few OndexFits 48) GoodSigers (list_at (siger_at s) 48 s) _ (gives_list OndexFits (siger_at s) (gives_siger s) 48 s)
+    (λ xs p. gives_got GoodSigers (verification.packed_sigers xs) (sigers-shape xs p))
 
 -- ---- the groups: no fault in any of their fields
 pub clear : (ns : List ℕ) → Each (λ n. n ≡ 0) ns → first_fault ns ≡ 0
@@ -251,28 +251,28 @@ gives_first s =
     gives_then (Fits Prefix) GoodFirst (item_at Prefix s) _ (gives_item Prefix s)
     (λ prefix p. gives_then Some GoodFirst (sn_at s) _ (gives_sn s)
     (λ sn u. gives_then (Fits Said) GoodFirst (item_at Said s) _ (gives_item Said s)
-    (λ said q. gives-got GoodFirst _ (p, q))))
+    (λ said q. gives_got GoodFirst _ (p, q))))
 
 gives_later : (s : List ℕ) → Gives GoodLater (later_head_at s)
 unfolding later_head_at later_head
 gives_later s =
     gives_then GoodFirst GoodLater (first_head_at s) _ (gives_first s)
     (λ h p. gives_then (Fits Said) GoodLater (item_at Said s) _ (gives_item Said s)
-    (λ prior q. gives-got GoodLater _ (clear _ (first-shape _ p, (item_shape_lem Said prior q, tt)))))
+    (λ prior q. gives_got GoodLater _ (clear _ (first-shape _ p, (item_shape_lem Said prior q, tt)))))
 
 gives_own : (s : List ℕ) → Gives GoodOwn (authority_at s)
 unfolding authority_at own_shape
 gives_own s =
     gives_then (GoodItems Key) GoodOwn (items_at Key s) _ (gives_items Key s)
     (λ keys p. gives_then GoodThreshold GoodOwn (threshold_at s) _ (gives_threshold s)
-    (λ t q. gives-got GoodOwn _ (clear _ (p, (q, tt)))))
+    (λ t q. gives_got GoodOwn _ (clear _ (p, (q, tt)))))
 
 gives_next : (s : List ℕ) → Gives GoodNext (commitment_at s)
 unfolding commitment_at next_shape
 gives_next s =
     gives_then (GoodItems Said) GoodNext (items_at Said s) _ (gives_items Said s)
     (λ next p. gives_then GoodThreshold GoodNext (threshold_at s) _ (gives_threshold s)
-    (λ t q. gives-got GoodNext _ (clear _ (p, (q, tt)))))
+    (λ t q. gives_got GoodNext _ (clear _ (p, (q, tt)))))
 
 -- ---- the bodies
 abbrev InceptionBody : Body → Type 0
@@ -289,7 +289,7 @@ gives_inception_body s =
     (λ c q. gives_then (GoodItems Key) InceptionBody (items_at Key s) _ (gives_items Key s)
     (λ witnesses r. gives_then Some InceptionBody (num_at 4 s) _ (gives_number 4 s)
     (λ toad u. gives_then GoodConfig InceptionBody (config_at s) _ (gives_config s)
-    (λ traits t. gives-got InceptionBody _ (clear _ (p, (q, (r, tt))), t))))))
+    (λ traits t. gives_got InceptionBody _ (clear _ (p, (q, (r, tt))), t))))))
 
 gives_rotation_body : (s : List ℕ) → Gives RotationBody (rotation_body_at s)
 unfolding rotation_body_at body_shape
@@ -299,7 +299,7 @@ gives_rotation_body s =
     (λ c q. gives_then (GoodItems Key) RotationBody (items_at Key s) _ (gives_items Key s)
     (λ additions r. gives_then (GoodItems Key) RotationBody (items_at Key s) _ (gives_items Key s)
     (λ removals t. gives_then Some RotationBody (num_at 4 s) _ (gives_number 4 s)
-    (λ toad u. gives-got RotationBody _ (clear _ (p, (q, (r, tt))), t))))))
+    (λ toad u. gives_got RotationBody _ (clear _ (p, (q, (r, tt))), t))))))
 
 -- ---- the records
 abbrev GoodEvent : Event → Type 0
@@ -317,7 +317,7 @@ gives_tail ilk h b s good =
     gives_then Some GoodEvent (num_at 4 s) _ (gives_number 4 s)
     (λ anchors u. gives_then GoodSigers GoodEvent (sigers_at s) _ (gives_sigers s)
     (λ sigs p. gives_then GoodSigers GoodEvent (sigers_at s) _ (gives_sigers s)
-    (λ receipts q. gives-ended GoodEvent s (event_of_lem ilk h b anchors sigs receipts) (good anchors sigs receipts (clear _ (p, (q, tt)))))))
+    (λ receipts q. gives_ended GoodEvent s (event_of_lem ilk h b anchors sigs receipts) (good anchors sigs receipts (clear _ (p, (q, tt)))))))
 
 gives_inception : (s : List ℕ) → Gives GoodEvent (inception_at s)
 unfolding inception_at event_shape
@@ -348,7 +348,7 @@ Latest n = latest_shape n ≡ 0
 
 pub gives_latest : (s : List ℕ) → Gives Latest (latest_at s)
 unfolding latest_at
-gives_latest s = gives_then Some Latest (byte_at s) _ (gives_byte s) (λ n u. gives-classed Latest (leb n 2) n (λ e. rw e))
+gives_latest s = gives_then Some Latest (byte_at s) _ (gives_byte s) (λ n u. gives_classed Latest (leb n 2) n (λ e. rw e))
 
 gives_snapshot : (s : List ℕ) → Gives GoodState (snapshot_at s)
 unfolding snapshot_at state_shape state_head state_tail
@@ -363,7 +363,7 @@ gives_snapshot s =
     (λ traits t. gives_then Some GoodState (flag_at s) _ (gives_flag s)
     (λ transferable v. gives_then Some GoodState (sn_at s) _ (gives_sn s)
     (λ sn x. gives_then (Fits Said) GoodState (item_at Said s) _ (gives_item Said s)
-    (λ said d. gives-ended GoodState s _
+    (λ said d. gives_ended GoodState s _
     (let head = clear _ (item_shape_lem Prefix h.prefix p.0, (item_shape_lem Said h.said p.1, (l, tt))) in
     let tail = clear _ (w, (t, (item_shape_lem Said said d, tt))) in
     clear _ (head, (a, (c, (tail, tt)))))))))))))))

@@ -14,7 +14,7 @@ use Rattle.layout.specs.Records.{first_of, next_in}
 use Rattle.threshold_field.specs.declared.Marks.{Marks}
 use Rattle.threshold_field.specs.declared.Marked as T
 use Rattle.threshold_field.specs.ThresholdField.{marked_is, marks_at, threshold_of}
-use Rattle.threshold_field.proofs.Laws.{threshold-values}
+use Rattle.threshold_field.proofs.Laws.{threshold_values}
 use Rattle.attainable.specs.Attainable.{attainable_by, attained}
 use Rattle.device.specs.Calls.{words, length_in, threshold_alone, attainable_read, attainable_in}
 
@@ -27,19 +27,19 @@ length_of s n e = e
 module _ (s : List ℕ) (keys : ℕ) (x : T.Marked) (is : marked_is x ≡ marks_at s 0) where
   threshold-read : (y : T.Marked) → x ≡ y → attainable_in s keys ≡ attainable_read keys (bind (mapped (threshold_of s) (marked_is y)) (ended s))
   unfolding attainable_in threshold_alone
-  threshold-read y told = rw (← threshold-values s 0, ← is, told)
+  threshold-read y told = rw (← threshold_values s 0, ← is, told)
 
-  pub attainable-unread : (n : ℕ) → x ≡ T.TheVariants.No n → attained n false ≡ attainable_in s keys
-  attainable-unread n told = sym (threshold-read _ told)
+  pub attainable_unread : (n : ℕ) → x ≡ T.TheVariants.No n → attained n false ≡ attainable_in s keys
+  attainable_unread n told = sym (threshold-read _ told)
 
   module _ (m : Marks) (end : ℕ) (told : x ≡ T.TheVariants.Of m end) where
     pub attainable-over : (end ≡ length s → ⊥) → attained 3 false ≡ attainable_in s keys
     unfolding ended
     attainable-over ne = rw (threshold-read _ told, ne_eqb end (length s) ne)
 
-    pub attainable-whole : (t : Threshold) → end ≡ length s → t ≡ threshold_of s m → attainable_by t keys ≡ attainable_in s keys
+    pub attainable_whole : (t : Threshold) → end ≡ length s → t ≡ threshold_of s m → attainable_by t keys ≡ attainable_in s keys
     unfolding ended
-    attainable-whole t e et = rw (threshold-read _ told, eq-eqb end (length s) e, et)
+    attainable_whole t e et = rw (threshold-read _ told, eq-eqb end (length s) e, et)
 
 -- ---- what is told
 module _ (r : ℕ) (d : List ℕ) (x : Answer) (er : r ≡ x.number) (ed : d ≡ words x) where

@@ -44,16 +44,16 @@ module _ (keys next : ℕ) (sigs wigs : List Siger) where
   pub signed_is : (t : Threshold) → signed_on t (evidence_of keys next sigs wigs) ≡ signed_by t keys sigs
   signed_is t = ap (quorum 27 t) (places-set (verified_at keys sigs))
 
-  pub exposed-is : (t : Threshold) → exposed_on t (evidence_of keys next sigs wigs) ≡ exposed_by t keys next sigs
-  exposed-is t = ap (quorum 28 t) (places-set (exposed_at keys next sigs))
+  pub exposed_is : (t : Threshold) → exposed_on t (evidence_of keys next sigs wigs) ≡ exposed_by t keys next sigs
+  exposed_is t = ap (quorum 28 t) (places-set (exposed_at keys next sigs))
 
-  receipted-at : (toad n : ℕ) → receipted_on toad (evidence_of keys next sigs wigs) n ≡ receipted_by toad n wigs
-  receipted-at toad n =
+  receipted_at : (toad n : ℕ) → receipted_on toad (evidence_of keys next sigs wigs) n ≡ receipted_by toad n wigs
+  receipted_at toad n =
       ap (receipts toad) (
       ap places_in (cut-set n (verified_at 16 wigs))
       ∙ places-set (below n (verified_at 16 wigs))
       ∙ chosen-same 16 (below n (verified_at 16 wigs)) (verified_at n wigs) (λ k h. verified_within n k wigs h))
 
   -- at every number of witnesses
-  pub receipted-is : (toad : ℕ) → receipted_on toad (evidence_of keys next sigs wigs) ≡ (λ n. receipted_by toad n wigs)
-  receipted-is toad = fun_ext (λ n. receipted-at toad n)
+  pub receipted_is : (toad : ℕ) → receipted_on toad (evidence_of keys next sigs wigs) ≡ (λ n. receipted_by toad n wigs)
+  receipted_is toad = fun_ext (λ n. receipted_at toad n)

@@ -1,5 +1,5 @@
 -- Fields by their places against format's fields by value. Assumes nothing.
---     item-value, items-value, config_value    scanning a field and copying it after is reading it
+--     item_value, items_value, config_value    scanning a field and copying it after is reading it
 use mathlib.Core.Path.{◌≡◌, refl, ap}
 use mathlib.Core.Bool.{Bool, true, false}
 use mathlib.Core.List.{List}
@@ -20,7 +20,7 @@ use Rattle.format.specs.Parse.{Parse, got, bad, bind, byte_at, raw_at, classed, 
 use Rattle.format.specs.Fields.{item_at, items_at, trait_at, config_at}
 use Rattle.cursor.specs.Cursor.{raw_of}
 use Rattle.cursor.specs.Spans.{mapped, span_at, list_of, many_of}
-use Rattle.cursor.proofs.Laws.{byte-got, byte-short, raw-short, list_length, Agree, had, refused, place-value, span-values}
+use Rattle.cursor.proofs.Laws.{byte_got, byte-short, raw-short, list_length, Agree, had, refused, place_value, span_values}
 use Rattle.field.specs.Field.{place_at, trait_place_at, items_place_at, config_place_at, byte_of, item_of, items_of, config_of}
 
 module _ (k : Kind) (s : List ℕ) (at : ℕ) where
@@ -28,31 +28,31 @@ module _ (k : Kind) (s : List ℕ) (at : ℕ) where
   unfolding place_at
   place_short h = rw (lt-leb _ _ h)
 
-  pub place-got : at + 33 ≤ length s → fits_of k (get_or s at 0) ≡ true → place_at k s at ≡ got at (at + 33)
+  pub place_got : at + 33 ≤ length s → fits_of k (get_or s at 0) ≡ true → place_at k s at ≡ got at (at + 33)
   unfolding place_at
-  place-got h e = rw (le-leb _ _ h, e)
+  place_got h e = rw (le-leb _ _ h, e)
 
-  pub place-bad : at + 33 ≤ length s → fits_of k (get_or s at 0) ≡ false → place_at k s at ≡ bad 3
+  pub place_bad : at + 33 ≤ length s → fits_of k (get_or s at 0) ≡ false → place_at k s at ≡ bad 3
   unfolding place_at
-  place-bad h e = rw (le-leb _ _ h, e)
+  place_bad h e = rw (le-leb _ _ h, e)
 
 module _ (s : List ℕ) (at : ℕ) where
-  pub trait-short : byte_at s at ≡ bad 3 → trait_place_at s at ≡ bad 3
+  pub trait_short : byte_at s at ≡ bad 3 → trait_place_at s at ≡ bad 3
   unfolding trait_place_at
-  trait-short e = rw e
+  trait_short e = rw e
 
-  pub trait-is : (t n : ℕ) (b : Bool) → byte_at s at ≡ got t n → is_trait t ≡ b → trait_place_at s at ≡ classed b at n
+  pub trait_is : (t n : ℕ) (b : Bool) → byte_at s at ≡ got t n → is_trait t ≡ b → trait_place_at s at ≡ classed b at n
   unfolding trait_place_at
-  trait-is t n b e f = rw e (ap (λ (x : Bool). classed x at n) f)
+  trait_is t n b e f = rw e (ap (λ (x : Bool). classed x at n) f)
 
   -- the item at a place, with its bytes there and without
-  pub item-is : (r : List ℕ) → r ≡ raw_of 32 s (at + 1) → ◌≡◌ {A = Item} (record { code = get_or s at 0; raw = r }) (item_of s at)
+  pub item_is : (r : List ℕ) → r ≡ raw_of 32 s (at + 1) → ◌≡◌ {A = Item} (record { code = get_or s at 0; raw = r }) (item_of s at)
   unfolding item_of
-  item-is r e = rw e
+  item_is r e = rw e
 
-  pub item-none : length s ≤ at → zero_item ≡ item_of s at
+  pub item_none : length s ≤ at → zero_item ≡ item_of s at
   unfolding item_of
-  item-none h =
+  item_none h =
       let k : length s < at + 1 + 32 = omega arith in
       rw (get_or-eq_default s 0 h, raw-short 32 s (at + 1) k)
 
@@ -72,9 +72,9 @@ traits_is s n p i l e r = rw (r, e, list_length (byte_of s) 1 n p)
 
 -- w bytes as they stand, where there is room and where there is not
 module _ (w : ℕ) (s : List ℕ) (at : ℕ) where
-  bytes-got : at + w ≤ length s → raw_at w s at ≡ got (raw_of w s at) (at + w)
+  bytes_got : at + w ≤ length s → raw_at w s at ≡ got (raw_of w s at) (at + w)
   unfolding raw_at raw_of
-  bytes-got h = rw (le-leb _ _ h)
+  bytes_got h = rw (le-leb _ _ h)
 
   bytes-short : length s < at + w → raw_at w s at ≡ bad 3
   unfolding raw_at
@@ -82,36 +82,36 @@ module _ (w : ℕ) (s : List ℕ) (at : ℕ) where
 
 -- an item by its place and by its value
 module _ (k : Kind) (s : List ℕ) (p : ℕ) where
-  item-fit : p + 33 ≤ length s → (b : Bool) → fits_of k (get_or s p 0) ≡ b → item_at k s p ≡ classed b (item_of s p) (p + 33)
+  item_fit : p + 33 ≤ length s → (b : Bool) → fits_of k (get_or s p 0) ≡ b → item_at k s p ≡ classed b (item_of s p) (p + 33)
   unfolding item_at item_of
-  item-fit h b e =
+  item_fit h b e =
       let l : p < length s = omega arith in
       let m : p + 1 + 32 ≤ length s = omega arith in
       let d : p + 1 + 32 ≡ p + 33 = omega arith in
-      rw (byte-got s p l, bytes-got 32 s (p + 1) m, e, d)
+      rw (byte_got s p l, bytes_got 32 s (p + 1) m, e, d)
 
-  item-short : length s < p + 33 → item_at k s p ≡ bad 3
+  item_short : length s < p + 33 → item_at k s p ≡ bad 3
   unfolding item_at
-  item-short h = go (ltb p (length s)) refl
+  item_short h = go (ltb p (length s)) refl
     where
       go : (b : Bool) → ltb p (length s) ≡ b
           → bind (byte_at s p) (λ code q. bind (raw_at 32 s q) (λ raw n. classed {A = Item} (fits_of k code) (record { code = code; raw = raw }) n)) ≡ bad 3
       go true e =
           let l = ltb-true p (length s) e in
           let m : length s < p + 1 + 32 = omega arith in
-          rw (byte-got s p l, bytes-short 32 s (p + 1) m)
+          rw (byte_got s p l, bytes-short 32 s (p + 1) m)
       go false e = rw (byte-short s p (ltb-false p (length s) e))
 
-  item-agrees : Agree 33 (length s) p (place_at k s p) (item_at k s p) (item_of s p)
-  item-agrees = go (leb (p + 33) (length s)) refl
+  item_agrees : Agree 33 (length s) p (place_at k s p) (item_at k s p) (item_of s p)
+  item_agrees = go (leb (p + 33) (length s)) refl
     where
       fit : p + 33 ≤ length s → (b : Bool) → fits_of k (get_or s p 0) ≡ b → Agree 33 (length s) p (place_at k s p) (item_at k s p) (item_of s p)
-      fit h true e = had h (place-got k s p h e) (item-fit h true e)
-      fit h false e = refused 3 (place-bad k s p h e) (item-fit h false e)
+      fit h true e = had h (place_got k s p h e) (item_fit h true e)
+      fit h false e = refused 3 (place_bad k s p h e) (item_fit h false e)
 
       go : (b : Bool) → leb (p + 33) (length s) ≡ b → Agree 33 (length s) p (place_at k s p) (item_at k s p) (item_of s p)
       go true e = fit (leb-true (p + 33) (length s) e) (fits_of k (get_or s p 0)) refl
-      go false e = let h = leb-false (p + 33) (length s) e in refused 3 (place_short k s p h) (item-short h)
+      go false e = let h = leb-false (p + 33) (length s) e in refused 3 (place_short k s p h) (item_short h)
 
 -- a trait by its place and by its value
 trait_agrees : (s : List ℕ) (p : ℕ) → Agree 1 (length s) p (trait_place_at s p) (trait_at s p) (byte_of s p)
@@ -127,17 +127,17 @@ trait_agrees s p = go (ltb p (length s)) refl
         → Agree 1 (length s) p (bind (byte_at s p) (λ t n. classed (is_trait t) p n)) (bind (byte_at s p) (λ t n. classed (is_trait t) t n)) (byte_of s p)
     go true e =
         let l = ltb-true p (length s) e in
-        rw (byte-got s p l) (fit (omega arith) (is_trait (get_or s p 0)) refl)
+        rw (byte_got s p l) (fit (omega arith) (is_trait (get_or s p 0)) refl)
     go false e = let l = ltb-false p (length s) e in refused 3 (rw (byte-short s p l)) (rw (byte-short s p l))
 
 -- ---- Scanning a field and copying it after is reading it.
 module _ (k : Kind) (s : List ℕ) (at : ℕ) where
-  pub item-value : mapped (item_of s) (place_at k s at) ≡ item_at k s at
-  item-value = place-value (place_at k s) (item_at k s) (item_of s) 33 (length s) (item-agrees k s) at
+  pub item_value : mapped (item_of s) (place_at k s at) ≡ item_at k s at
+  item_value = place_value (place_at k s) (item_at k s) (item_of s) 33 (length s) (item_agrees k s) at
 
-  pub items-value : mapped (λ (m : ℕ × ℕ). items_of s m.0 m.1) (items_place_at k s at) ≡ items_at k s at
+  pub items_value : mapped (λ (m : ℕ × ℕ). items_of s m.0 m.1) (items_place_at k s at) ≡ items_at k s at
   unfolding items_at items_of
-  items-value = packs (span_at (place_at k s) 16 s at) (list_at (item_at k s) 16 s at) (span-values (place_at k s) (item_at k s) (item_of s) 33 16 s (item-agrees k s) at)
+  items_value = packs (span_at (place_at k s) 16 s at) (list_at (item_at k s) 16 s at) (span_values (place_at k s) (item_at k s) (item_of s) 33 16 s (item_agrees k s) at)
     where
       packs : (x : Parse (ℕ × ℕ)) (y : Parse (List Item)) → mapped (λ (m : ℕ × ℕ). many_of (item_of s) 33 16 s m.0 m.1) x ≡ y
           → mapped (λ (m : ℕ × ℕ). packed (many_of (item_of s) 33 16 s m.0 m.1)) x ≡ bind y (λ xs n. got (packed xs) n)
@@ -146,7 +146,7 @@ module _ (k : Kind) (s : List ℕ) (at : ℕ) where
 
 pub config_value : (s : List ℕ) (at : ℕ) → mapped (λ (m : ℕ × ℕ). config_of s m.0 m.1) (config_place_at s at) ≡ config_at s at
 unfolding config_at config_of
-config_value s at = packs (span_at (trait_place_at s) 8 s at) (list_at (trait_at s) 8 s at) (span-values (trait_place_at s) (trait_at s) (byte_of s) 1 8 s (trait_agrees s) at)
+config_value s at = packs (span_at (trait_place_at s) 8 s at) (list_at (trait_at s) 8 s at) (span_values (trait_place_at s) (trait_at s) (byte_of s) 1 8 s (trait_agrees s) at)
   where
     packs : (x : Parse (ℕ × ℕ)) (y : Parse (List ℕ)) → mapped (λ (m : ℕ × ℕ). many_of (byte_of s) 1 8 s m.0 m.1) x ≡ y
         → mapped (λ (m : ℕ × ℕ). packed_traits (many_of (byte_of s) 1 8 s m.0 m.1)) x ≡ bind y (λ xs n. got (packed_traits xs) n)

@@ -2,7 +2,7 @@
 -- transitive comparison, for what equals a copy then equals the one copied. Assumes nothing.
 --     any_more                           a list with one more element
 --     none_yet_lem, first-kept, first_more   the set before any element, and with a copy or a first one more
---     is-copy, no_copy                   one step of the search: a first one that is equal; a copy passed over or a first one that differs
+--     is_copy, no_copy                   one step of the search: a first one that is equal; a copy passed over or a first one that differs
 use mathlib.Core.Path.{◌≡◌, refl, sym, ap, ◌∙◌}
 use mathlib.Core.Bool.{Bool, true, false, not}
 use mathlib.Core.List.{List, [], ◌∷◌, ◌++◌}
@@ -29,12 +29,12 @@ through : {A : Type 0} (same : A → A → Bool) → ((x y z : A) → same x y �
     → (x y : A) (zs : List A) → same x y ≡ true → any (same y) zs ≡ true → any (same x) zs ≡ true
 unfolding any
 through same trans x y [] e f = clash (sym f)
-through same trans x y (z ∷ zs) e f = by-test (same y z) refl f (through same trans x y zs e)
+through same trans x y (z ∷ zs) e f = by_test (same y z) refl f (through same trans x y zs e)
   where
-    by-test : (b : Bool) → same y z ≡ b → either b (any (same y) zs) ≡ true → (any (same y) zs ≡ true → any (same x) zs ≡ true)
+    by_test : (b : Bool) → same y z ≡ b → either b (any (same y) zs) ≡ true → (any (same y) zs ≡ true → any (same x) zs ≡ true)
         → either (same x z) (any (same x) zs) ≡ true
-    by-test true d g more = rw (trans x y z e d)
-    by-test false d g more = rw (more g) (either_true (same x z))
+    by_test true d g more = rw (trans x y z e d)
+    by_test false d g more = rw (more g) (either_true (same x z))
 
 module _ {A : Type 0} (same : A → A → Bool) (at : ℕ → A) (before : ℕ → List A) where
   abbrev firsts : ℕ → ℕ
@@ -74,8 +74,8 @@ module _ {A : Type 0} (same : A → A → Bool) (at : ℕ → A) (before : ℕ �
     kept j zero h e = rw add-zero e
     kept j (suc k) h e = let s : j + suc k ≡ j + k + 1 = omega arith in rw s (one_more_lem (j + k) (omega arith) ∙ rw (kept j k (omega arith) e))
 
-    pub is-copy : (i j : ℕ) → j < i → i ≤ n → both (has_first (firsts i) j) (same x (at j)) ≡ true → any (same x) (before i) ≡ true
-    is-copy i j h g e =
+    pub is_copy : (i j : ℕ) → j < i → i ≤ n → both (has_first (firsts i) j) (same x (at j)) ≡ true → any (same x) (before i) ≡ true
+    is_copy i j h g e =
         let same_here : same x (at j) ≡ true = (both_true (has_first (firsts i) j) (same x (at j)) e).1 in
         let here : any (same x) (before (j + 1)) ≡ true = one_more_lem j (omega arith) ∙ rw same_here (either_true (any (same x) (before j))) in
         let end : j + 1 + (i - (j + 1)) ≡ i = omega arith in

@@ -38,24 +38,24 @@ fold_as h e k told = ap (λ (i : Ilk). fold_of i h e) (sym told)
 -- a list with room is accepted without details
 clean_change : (new : List Item) → Clean (change_of new).answer
 unfolding change_of
-clean_change new = by-test (leb (length new) 16)
+clean_change new = by_test (leb (length new) 16)
   where
-    by-test : (t : Bool) → Clean (pick {A = Change} t (record { answer = accepted; list = packed new }) (record { answer = refused 38 (length new) 0; list = packed [] })).answer
-    by-test true p = refl
-    by-test false p = clash (sym p)
+    by_test : (t : Bool) → Clean (pick {A = Change} t (record { answer = accepted; list = packed new }) (record { answer = refused 38 (length new) 0; list = packed [] })).answer
+    by_test true p = refl
+    by_test false p = clash (sym p)
 
 pub clean_fold : (k : Ilk) (h : Holder) (e : Event) → Clean (foldable k h e)
 clean_fold Inception h e = λ p. refl
-clean_fold Rotation h e = by-test (is_held h)
+clean_fold Rotation h e = by_test (is_held h)
   where
-    by-test : (t : Bool) → Clean (pick t (change_of (new_witnesses h.state e.body)).answer (refused 8 0 0))
-    by-test true p = clean_change (new_witnesses h.state e.body) p
-    by-test false p = clash (sym p)
-clean_fold Interaction h e = by-test (is_held h)
+    by_test : (t : Bool) → Clean (pick t (change_of (new_witnesses h.state e.body)).answer (refused 8 0 0))
+    by_test true p = clean_change (new_witnesses h.state e.body) p
+    by_test false p = clash (sym p)
+clean_fold Interaction h e = by_test (is_held h)
   where
-    by-test : (t : Bool) → Clean (pick t accepted (refused 8 0 0))
-    by-test true p = refl
-    by-test false p = clash (sym p)
+    by_test : (t : Bool) → Clean (pick t accepted (refused 8 0 0))
+    by_test true p = refl
+    by_test false p = clash (sym p)
 clean_fold DelegatedInception h e = λ p. clash (sym p)
 clean_fold DelegatedRotation h e = λ p. clash (sym p)
 

@@ -36,11 +36,11 @@ module _ {A : Type 0} {q : Parse A} where
   value-told : {B : Type 0} (f : A → B) {v : Parse B} (r : Parse A) → mapped f q ≡ v → q ≡ r → mapped f r ≡ v
   value-told f r is told = ap (mapped f) (sym told) ∙ is
 
-  pub event-told : (f : A → Event) {v : Parse Event} (r : Parse A) → mapped f q ≡ v → q ≡ r → as_event (mapped f r) ≡ as_event v
-  event-told f r is told = ap as_event (value-told f r is told)
+  pub event_told : (f : A → Event) {v : Parse Event} (r : Parse A) → mapped f q ≡ v → q ≡ r → as_event (mapped f r) ≡ as_event v
+  event_told f r is told = ap as_event (value-told f r is told)
 
-  pub snapshot-told : (f : A → KeyState) {v : Parse KeyState} (r : Parse A) → mapped f q ≡ v → q ≡ r → as_snapshot (mapped f r) ≡ as_snapshot v
-  snapshot-told f r is told = ap as_snapshot (value-told f r is told)
+  pub snapshot_told : (f : A → KeyState) {v : Parse KeyState} (r : Parse A) → mapped f q ≡ v → q ≡ r → as_snapshot (mapped f r) ≡ as_snapshot v
+  snapshot_told f r is told = ap as_snapshot (value-told f r is told)
 
 -- ---- by the mark
 pub of_mark : (x : Content) (body : List ℕ) (m k : ℕ) → m ≡ k → x ≡ content_of k body → x ≡ content_of m body
@@ -94,8 +94,8 @@ module _ (s : List ℕ) where
 
 -- what the call told
 module _ (s : List ℕ) {x : F.First} (y : F.First) (told : x ≡ y) where
-  pub first-is : first_is s x ≡ first_of s → first_is s y ≡ first_of s
-  first-is e = ap (first_is s) (sym told) ∙ e
+  pub first_is_lem : first_is s x ≡ first_of s → first_is s y ≡ first_of s
+  first_is_lem e = ap (first_is s) (sym told) ∙ e
 
   pub first-within : Within s x → Within s y
   first-within w = rw told at w
@@ -138,45 +138,45 @@ module _ (s : List ℕ) (some : length s ≡ 0 → ⊥) where
   unfolding state_in
   by_first f e = rw (ne_eqb (length s) 0 some, ← e)
 
-  pub state-short : truncated ≡ first_of s → none 1 ≡ state_in s
-  state-short e = by_first truncated e
+  pub state_short : truncated ≡ first_of s → none 1 ≡ state_in s
+  state_short e = by_first truncated e
 
   module _ (mark next : ℕ) (e : record_of mark (content_of mark (take (next - 4) (drop 4 s))) next ≡ first_of s) where
-    pub state-other : (mark ≡ 0x4B53 → ⊥) → none 2 ≡ state_in s
-    state-other ne =
+    pub state_other : (mark ≡ 0x4B53 → ⊥) → none 2 ≡ state_in s
+    state_other ne =
         let h : snapshot_first (length s) (record_of mark (content_of mark (take (next - 4) (drop 4 s))) next) ≡ state_in s = by_first _ e in
         rw (ne_eqb mark 0x4B53 ne) at h
 
     module _ (within : (4 ≤ next) × ((next ≤ length s) × Small s)) (ks : mark ≡ 0x4B53) (x : S.StateScan) (is : state_is x ≡ snapshot_places (take (next - 4) (drop 4 s)) 0) (value : mapped (state_of (take (next - 4) (drop 4 s))) (state_is x) ≡ snapshot_at (take (next - 4) (drop 4 s)) 0) where
-      state-alone : alone (eqb next (length s)) (as_snapshot (snapshot_at (take (next - 4) (drop 4 s)) 0)) ≡ state_in s
+      state_alone : alone (eqb next (length s)) (as_snapshot (snapshot_at (take (next - 4) (drop 4 s)) 0)) ≡ state_in s
       unfolding content_of
-      state-alone =
+      state_alone =
           let h : record_of 0x4B53 (content_of 0x4B53 (take (next - 4) (drop 4 s))) next ≡ first_of s = rw ks at e in
           by_first _ h
 
-      state-read : (q : Parse StateMarks) → state_is x ≡ q → alone (eqb next (length s)) (as_snapshot (mapped (state_of (take (next - 4) (drop 4 s))) q)) ≡ state_in s
-      state-read q told = ap (alone (eqb next (length s))) (snapshot-told _ q value told) ∙ state-alone
+      state_read : (q : Parse StateMarks) → state_is x ≡ q → alone (eqb next (length s)) (as_snapshot (mapped (state_of (take (next - 4) (drop 4 s))) q)) ≡ state_in s
+      state_read q told = ap (alone (eqb next (length s))) (snapshot_told _ q value told) ∙ state_alone
 
       -- a scan refuses with 3 or 4
-      pub state-unread : (k n : ℕ) → x ≡ S.TheVariants.No k → n ≡ refusal_of_state x → (none n ≡ state_in s) × (n ≡ 0 → ⊥)
+      pub state_unread : (k n : ℕ) → x ≡ S.TheVariants.No k → n ≡ refusal_of_state x → (none n ≡ state_in s) × (n ≡ 0 → ⊥)
       unfolding content_of
-      state-unread k n told en =
+      state_unread k n told en =
           let ek : n ≡ k = en ∙ ap refusal_of_state told in
           let h : Shaped (as_snapshot (snapshot_at (take (next - 4) (drop 4 s)) 0)) = decoded_shape 0x4B53 (take (next - 4) (drop 4 s)) in
-          let g : (2 ≤ k) × (k ≤ 4) = rw (sym (snapshot-told (state_of (take (next - 4) (drop 4 s))) (bad k) value (ap state_is told))) at h in
+          let g : (2 ≤ k) × (k ≤ 4) = rw (sym (snapshot_told (state_of (take (next - 4) (drop 4 s))) (bad k) value (ap state_is told))) at h in
           let two : 2 ≤ k = g.0 in
-          (ap none ek ∙ state-read (bad k) (ap state_is told), not-zero n (omega arith))
+          (ap none ek ∙ state_read (bad k) (ap state_is told), not-zero n (omega arith))
 
       module _ (m : StateMarks) (n : ℕ) (told : x ≡ S.TheVariants.Of m n) where
-        pub state-over : (next ≡ length s → ⊥) → none 3 ≡ state_in s
-        state-over ne =
-            let h : alone (eqb next (length s)) (snapshot (state_of (take (next - 4) (drop 4 s)) m)) ≡ state_in s = state-read (got m n) (ap state_is told) in
+        pub state_over : (next ≡ length s → ⊥) → none 3 ≡ state_in s
+        state_over ne =
+            let h : alone (eqb next (length s)) (snapshot (state_of (take (next - 4) (drop 4 s)) m)) ≡ state_in s = state_read (got m n) (ap state_is told) in
             rw (ne_eqb next (length s) ne) at h
 
-        pub state-whole : next ≡ length s → (one (holding (state_of (drop 4 s) m)) ≡ state_in s) × Whole s m
-        state-whole end =
+        pub state_whole : next ≡ length s → (one (holding (state_of (drop 4 s) m)) ≡ state_in s) × Whole s m
+        state_whole end =
             let all : take (next - 4) (drop 4 s) ≡ drop 4 s = take_all (next - 4) (drop 4 s) (rw (length-drop 4 s) (omega arith)) in
-            let h : alone (eqb next (length s)) (snapshot (state_of (take (next - 4) (drop 4 s)) m)) ≡ state_in s = state-read (got m n) (ap state_is told) in
+            let h : alone (eqb next (length s)) (snapshot (state_of (take (next - 4) (drop 4 s)) m)) ≡ state_in s = state_read (got m n) (ap state_is told) in
             let frame : (mark ≡ mark_of s) × (next ≡ 4 + body_length s) = first-told s mark next _ e in
             let scan : Got (snapshot_places (take (next - 4) (drop 4 s)) 0) m = placed m n is (ap state_is told) in
             let four : 4 ≤ length s = rw end at within.0 in (

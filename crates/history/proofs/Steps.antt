@@ -31,20 +31,20 @@ use Rattle.history.specs.History.{after, takes}
 -- ---- the checks in order: where the whole passes, each check passed
 pub first_passes : (x : Answer) (xs : List Answer) → passes (first_refusal (x ∷ xs)) ≡ true → (passes x ≡ true) × (passes (first_refusal xs) ≡ true)
 unfolding first_refusal
-first_passes x xs e = by-test (passes x) refl e
+first_passes x xs e = by_test (passes x) refl e
   where
-    by-test : (t : Bool) → passes x ≡ t → passes (pick t (first_refusal xs) x) ≡ true → (passes x ≡ true) × (passes (first_refusal xs) ≡ true)
-    by-test true p q = (p, q)
-    by-test false p q = clash (sym q ∙ p)
+    by_test : (t : Bool) → passes x ≡ t → passes (pick t (first_refusal xs) x) ≡ true → (passes x ≡ true) × (passes (first_refusal xs) ≡ true)
+    by_test true p q = (p, q)
+    by_test false p q = clash (sym q ∙ p)
 
 -- ---- an accepted event, by its ilk: the fold takes it too, and makes the same state of it
 -- of an inception: its number is 0
 at_zero : (h : Head) → passes (genesis_sn h.sn) ≡ true → h.sn ≡ small 0
-at_zero h p = by-test (same_number h.sn (small 0)) refl p
+at_zero h p = by_test (same_number h.sn (small 0)) refl p
   where
-    by-test : (t : Bool) → same_number h.sn (small 0) ≡ t → passes (pick t accepted (record { number = 11; a = h.sn; b = small 0 })) ≡ true → h.sn ≡ small 0
-    by-test true e q = same_number_lem h.sn (small 0) e
-    by-test false e q = clash (sym q)
+    by_test : (t : Bool) → same_number h.sn (small 0) ≡ t → passes (pick t accepted (record { number = 11; a = h.sn; b = small 0 })) ≡ true → h.sn ≡ small 0
+    by_test true e q = same_number_lem h.sn (small 0) e
+    by_test false e q = clash (sym q)
 
 pub seed_is_genesis : (e : Event) → passes (incepted e) ≡ true → seeded e.head e.body ≡ genesis e.head e.body
 unfolding inception
@@ -60,11 +60,11 @@ list-fits s e p =
 
 -- what a held state's answer rests on
 pub live : (s : KeyState) (x : Answer) → passes (pick (may_move s) x (refused 10 0 0)) ≡ true → passes x ≡ true
-live s x p = by-test (may_move s) p
+live s x p = by_test (may_move s) p
   where
-    by-test : (t : Bool) → passes (pick t x (refused 10 0 0)) ≡ true → passes x ≡ true
-    by-test true q = q
-    by-test false q = clash (sym q)
+    by_test : (t : Bool) → passes (pick t x (refused 10 0 0)) ≡ true → passes x ≡ true
+    by_test true q = q
+    by_test false q = clash (sym q)
 
 pub record SameStep (k : Ilk) (h : Holder) (e : Event) : Type 0 where
   pub folds : passes (foldable k h e) ≡ true
@@ -118,11 +118,11 @@ abbrev pub expects : Holder → ℕ
 expects h = pick (is_held h) (value h.state.sn + 1) 0
 
 follows_next : (n : Successor) (m : Number) → passes (follows n m) ≡ true → n ≡ Of m
-follows_next (Of k) m p = by-test (same_number k m) refl p
+follows_next (Of k) m p = by_test (same_number k m) refl p
   where
-    by-test : (t : Bool) → same_number k m ≡ t → passes (pick t accepted (record { number = 35; a = k; b = m })) ≡ true → Of k ≡ Of m
-    by-test true e q = ap Of (same_number_lem k m e)
-    by-test false e q = clash (sym q)
+    by_test : (t : Bool) → same_number k m ≡ t → passes (pick t accepted (record { number = 35; a = k; b = m })) ≡ true → Of k ≡ Of m
+    by_test true e q = ap Of (same_number_lem k m e)
+    by_test false e q = clash (sym q)
 follows_next Last m p = clash (sym p)
 
 chains-next : (s : KeyState) (h : Head) → passes (chains s h) ≡ true → value h.sn ≡ value s.sn + 1
@@ -162,9 +162,9 @@ module _ (h : Holder) (e : Event) (p : takes h e ≡ true) where
   pub takes-next : value e.head.sn ≡ expects h
   takes-next = (next-number e.ilk h e (is_held h) refl judged).waited
 
-  pub waits-next : expects (after h e) ≡ expects h + 1
+  pub waits_next : expects (after h e) ≡ expects h + 1
   unfolding next_state is_held
-  waits-next =
+  waits_next =
       let n = next-number e.ilk h e (is_held h) refl judged in
       rw (moves h e p) (ap (λ (x : Number). value x + 1) n.written ∙ ap (λ (x : ℕ). x + 1) n.waited)
 

@@ -17,7 +17,7 @@ use Rattle.empty.specs.Empty.{nothing}
 use Rattle.runs.specs.Runs.{kept_of}
 use Rattle.runs.proofs.Theorems as runs
 use Rattle.history.specs.History.{after, takes, held, kept, answer_at, answers, fold_step, fold_all, numbers, count_from}
-use Rattle.history.proofs.Steps.{stays, fold_same, expects, takes-next, waits-next, takes-zero}
+use Rattle.history.proofs.Steps.{stays, fold_same, expects, takes-next, waits_next, takes-zero}
 
 pub held_is_fold : (h : Holder) (es : List Event) → held h es ≡ fold_all h (kept h es)
 held_is_fold h es = runs.held_is_fold after takes stays fold_step fold_same h es
@@ -25,12 +25,12 @@ held_is_fold h es = runs.held_is_fold after takes stays fold_step fold_same h es
 numbered : (h : Holder) (es : List Event) → numbers (kept h es) ≡ count_from (expects h) (kept h es)
 unfolding kept_of numbers count_from
 numbered h [] = refl
-numbered h (e ∷ es) = by-test (takes h e) refl (numbered (after h e) es)
+numbered h (e ∷ es) = by_test (takes h e) refl (numbered (after h e) es)
   where
-    by-test : (t : Bool) → takes h e ≡ t → numbers (kept (after h e) es) ≡ count_from (expects (after h e)) (kept (after h e) es)
+    by_test : (t : Bool) → takes h e ≡ t → numbers (kept (after h e) es) ≡ count_from (expects (after h e)) (kept (after h e) es)
         → numbers (pick t (e ∷ kept (after h e) es) (kept (after h e) es)) ≡ count_from (expects h) (pick t (e ∷ kept (after h e) es) (kept (after h e) es))
-    by-test true p ih = rw (takes-next h e p) (ap (λ (ns : List ℕ). expects h ∷ ns) (ih ∙ ap (λ (n : ℕ). count_from n (kept (after h e) es)) (waits-next h e p)))
-    by-test false p ih = ih ∙ ap (λ (x : Holder). count_from (expects x) (kept (after h e) es)) (stays h e p)
+    by_test true p ih = rw (takes-next h e p) (ap (λ (ns : List ℕ). expects h ∷ ns) (ih ∙ ap (λ (n : ℕ). count_from n (kept (after h e) es)) (waits_next h e p)))
+    by_test false p ih = ih ∙ ap (λ (x : Holder). count_from (expects x) (kept (after h e) es)) (stays h e p)
 
 pub no_gap : (es : List Event) → numbers (kept nothing es) ≡ count_from 0 (kept nothing es)
 unfolding is_held

@@ -34,17 +34,17 @@ use Rattle.record.specs.declared.EventMarks.{EventMarks}
 use Rattle.record.specs.declared.StateMarks.{StateMarks}
 use Rattle.record.specs.Marks.{event_of}
 use Rattle.resume.proofs.Stays.{few_members}
-use Rattle.receive.proofs.Laws.{good-holder}
+use Rattle.receive.proofs.Laws.{good_holder}
 use Rattle.fold_record.specs.Folded.{body_folded}
 use Rattle.fold_record.specs.Steps.{fold_of, content_folded, folded_by}
-use Rattle.fold_record.proofs.Laws.{good-before}
+use Rattle.fold_record.proofs.Laws.{good_before}
 use Rattle.found.specs.declared.Read as R
 use Rattle.found.specs.declared.Held as H
 use Rattle.found.specs.Kept.{state_in, kept_in}
 use Rattle.found.specs.Found.{content_is, kept_is, Framed, Room}
 use Rattle.in_place.specs.Calls.{Left, settled_in, on_state, folded_first, body_folded_in, folded_in, asked}
 use Rattle.in_place.specs.Steps.{state_at, left, took, instead_of, deciding}
-use Rattle.in_place.proofs.Held.{run, refusal-left, turned_left, read_answer, on-state, instead-left, enough-decides}
+use Rattle.in_place.proofs.Held.{run, refusal_left, turned_left, read_answer, on_state_lem, instead-left, enough_decides}
 
 -- ---- the new list of witnesses
 pub list-folded : (buf : List ℕ) (used : ℕ) (sm : StateMarks) (s : List ℕ) (m : EventMarks) (current cuts adds : Items) (r : Change)
@@ -70,8 +70,8 @@ module _ (new : List Item) (r : Change) (e : r ≡ change_of new) (z : r.answer.
   pub list-packed : r.list ≡ packed new
   list-packed = ap (λ (x : Change). x.list) fits
 
-  pub list-few : r.list.count ≤ 16
-  list-few =
+  pub list_few : r.list.count ≤ 16
+  list_few =
       let n : r.list.count ≡ length new = ap (λ (x : Items). x.count) list-packed in
       let h = few in
       omega arith
@@ -79,22 +79,22 @@ module _ (new : List Item) (r : Change) (e : r ≡ change_of new) (z : r.answer.
 module _ (buf : List ℕ) (used : ℕ) where
   -- ---- a rotation
   module _ (S : KeyState) (e : Event) (r : Change) (er : r ≡ change_of (new_witnesses S e.body)) where
-    abbrev rolledWith : Change → Offered
-    rolledWith c = settled (holding S) c.answer (holding (rotated S e.head e.body (packed (new_witnesses S e.body))))
+    abbrev rolled_with : Change → Offered
+    rolled_with c = settled (holding S) c.answer (holding (rotated S e.head e.body (packed (new_witnesses S e.body))))
 
-    rotation-is : rolledWith r ≡ fold_of Rotation (holding S) e
+    rotation_is : rolled_with r ≡ fold_of Rotation (holding S) e
     unfolding is_held
-    rotation-is = ap rolledWith er
+    rotation_is = ap rolled_with er
 
     pub rotation-refused : (r.answer.number ≡ 0 → ⊥) → left r.answer buf used ≡ settled_in buf used (fold_of Rotation (holding S) e)
-    rotation-refused ne = refusal-left buf used r.answer (rolledWith r).holder ne ∙ ap (settled_in buf used) rotation-is
+    rotation-refused ne = refusal_left buf used r.answer (rolled_with r).holder ne ∙ ap (settled_in buf used) rotation_is
 
     pub rotation-settled : r.answer.number ≡ 0 → (l : Left) → l ≡ settled_in buf used (took (rotated S e.head e.body r.list)) → l ≡ settled_in buf used (fold_of Rotation (holding S) e)
     rotation-settled z l el =
         let new = new_witnesses S e.body in
-        let is : took (rotated S e.head e.body r.list) ≡ rolledWith r =
-        rw (list-packed new r er z) (sym (ap rolledWith (fits new r er z))) in
-        el ∙ ap (settled_in buf used) (is ∙ rotation-is)
+        let is : took (rotated S e.head e.body r.list) ≡ rolled_with r =
+        rw (list-packed new r er z) (sym (ap rolled_with (fits new r er z))) in
+        el ∙ ap (settled_in buf used) (is ∙ rotation_is)
 
   -- ---- a record's body by its mark
   module _ (h : Holder) (mark : ℕ) (s : List ℕ) {x : R.Read} (is : content_is s x ≡ content_of mark s) {a : Answer} where
@@ -104,8 +104,8 @@ module _ (buf : List ℕ) (used : ℕ) where
     pub delegated-rotation : x ≡ R.TheVariants.DelegatedRotation → a ≡ refused 6 0 0 → left a buf used ≡ settled_in buf used (content_folded h (content_of mark s))
     delegated-rotation told ea = read_answer buf used (content_folded h) mark s is R.TheVariants.DelegatedRotation told ea (turned_left buf used h 6 (λ z. absurd (omega arith)))
 
-    pub snapshot-settled : (m : StateMarks) → x ≡ R.TheVariants.Snapshot m → a ≡ refused 2 0 0 → left a buf used ≡ settled_in buf used (content_folded h (content_of mark s))
-    snapshot-settled m told ea = read_answer buf used (content_folded h) mark s is (R.TheVariants.Snapshot m) told ea (turned_left buf used h 2 (λ z. absurd (omega arith)))
+    pub snapshot_settled : (m : StateMarks) → x ≡ R.TheVariants.Snapshot m → a ≡ refused 2 0 0 → left a buf used ≡ settled_in buf used (content_folded h (content_of mark s))
+    snapshot_settled m told ea = read_answer buf used (content_folded h) mark s is (R.TheVariants.Snapshot m) told ea (turned_left buf used h 2 (λ z. absurd (omega arith)))
 
   -- "RO and IX on nothing 8"
   module _ (s : List ℕ) (m : EventMarks) where
@@ -129,30 +129,30 @@ module _ (buf : List ℕ) (used : ℕ) (x : H.Held) (kept : kept_is (take used b
   first_short_lem first ea = instead-left buf used x kept fr rm (λ h. folded_first h (first_of s)) 1 (λ z. absurd (omega arith)) same ea
     where
       same : (h : Holder) → holder_shape h ≡ 0 → turned_away h 1 ≡ folded_first h (first_of s)
-      same h z = good-holder h 0 (sym z) (turned_away h 1) refl ∙ ap (λ (y : First). folded_first h y) first
+      same h z = good_holder h 0 (sym z) (turned_away h 1) refl ∙ ap (λ (y : First). folded_first h y) first
 
   module _ (mark : ℕ) where
     -- "a KS is none"
-    pub body-snapshot : mark ≡ 0x4B53 → {a : Answer} → a ≡ refused (instead_of x 2) 0 0 → left a buf used ≡ body_folded_in buf used mark s
+    pub body_snapshot : mark ≡ 0x4B53 → {a : Answer} → a ≡ refused (instead_of x 2) 0 0 → left a buf used ≡ body_folded_in buf used mark s
     unfolding body_folded_in folded_by
-    body-snapshot ks ea = instead-left buf used x kept fr rm (λ h. body_folded h mark s) 2 (λ z. absurd (omega arith)) same ea
+    body_snapshot ks ea = instead-left buf used x kept fr rm (λ h. body_folded h mark s) 2 (λ z. absurd (omega arith)) same ea
       where
         same : (h : Holder) → holder_shape h ≡ 0 → turned_away h 2 ≡ body_folded h mark s
         same h z =
             let e : turned_away h 2 ≡ folded_by h mark s = rw (eq-eqb mark 0x4B53 ks) in
-            e ∙ good-before h 0 (sym z) refl mark s
+            e ∙ good_before h 0 (sym z) refl mark s
 
-    pub body-folded : (mark ≡ 0x4B53 → ⊥) → (n : ℕ) → n ≡ deciding (length s) → {l : Left}
+    pub body_folded_lem : (mark ≡ 0x4B53 → ⊥) → (n : ℕ) → n ≡ deciding (length s) → {l : Left}
         → l ≡ on_state buf used (λ h. content_folded h (content_of mark (take (n - 0) (drop 0 s)))) (kept_is (take used buf) x)
         → l ≡ body_folded_in buf used mark s
     unfolding body_folded_in folded_by
-    body-folded ne n en p =
-        on-state buf used x kept fr rm (λ h. body_folded h mark s) (λ h. content_folded h (content_of mark (take (n - 0) (drop 0 s)))) same p
+    body_folded_lem ne n en p =
+        on_state_lem buf used x kept fr rm (λ h. body_folded h mark s) (λ h. content_folded h (content_of mark (take (n - 0) (drop 0 s)))) same p
       where
         same : (h : Holder) → holder_shape h ≡ 0 → content_folded h (content_of mark (take (n - 0) (drop 0 s))) ≡ body_folded h mark s
         same h z =
             let e : content_folded h (content_of mark s) ≡ folded_by h mark s = rw (ne_eqb mark 0x4B53 ne) in
-            ap (λ (c : Content). content_folded h c) (enough-decides s n en mark) ∙ e ∙ good-before h 0 (sym z) refl mark s
+            ap (λ (c : Content). content_folded h c) (enough_decides s n en mark) ∙ e ∙ good_before h 0 (sym z) refl mark s
 
 -- the first record gets what its body gets
 pub fold-first : (buf : List ℕ) (used : ℕ) (s : List ℕ) (mark next : ℕ) → record_of mark (content_of mark (take (next - 4) (drop 4 s))) next ≡ first_of s
@@ -165,16 +165,16 @@ module _ (s : List ℕ) {x : H.Held} (is : kept_is s x ≡ state_in s) where
   kept-told : (y : H.Held) → x ≡ y → kept_is s y ≡ state_in s
   kept-told y told = ap (kept_is s) (sym told) ∙ is
 
-  pub asked-state : (m : StateMarks) (b : Number) → x ≡ H.TheVariants.Of m → b ≡ small 0 → record { number = 0; a = m.head.sn; b = b } ≡ asked s
+  pub asked_state : (m : StateMarks) (b : Number) → x ≡ H.TheVariants.Of m → b ≡ small 0 → record { number = 0; a = m.head.sn; b = b } ≡ asked s
   unfolding asked is_held
-  asked-state m b told eb = rw (eb, ← kept-told (H.TheVariants.Of m) told)
+  asked_state m b told eb = rw (eb, ← kept-told (H.TheVariants.Of m) told)
 
   pub asked-nothing : (a : Answer) → x ≡ H.TheVariants.Nothing → a ≡ refused 8 0 0 → a ≡ asked s
   unfolding asked is_held
   asked-nothing a told ea = rw (ea, ← kept-told H.TheVariants.Nothing told)
 
-  pub asked-bad : (n : ℕ) (a : Answer) → x ≡ H.TheVariants.No n → Framed s x → a ≡ refused n 0 0 → a ≡ asked s
+  pub asked_bad : (n : ℕ) (a : Answer) → x ≡ H.TheVariants.No n → Framed s x → a ≡ refused n 0 0 → a ≡ asked s
   unfolding asked
-  asked-bad n a told fr ea =
+  asked_bad n a told fr ea =
       let ne : n ≡ 0 → ⊥ = rw told at fr in
       rw (ea, ← kept-told (H.TheVariants.No n) told, ne_eqb n 0 ne)

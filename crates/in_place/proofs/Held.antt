@@ -1,8 +1,8 @@
 -- What the used bytes hold and what was read of a record, for the checked path and the unchecked fold alike. Assumes nothing.
 --     run                             the body of the record in the used bytes
---     refusal-left, turned_left       a refusal touches nothing
---     read-.., unread-left, placed_as a body as it was read
---     held-.., instead-left, on-state what is held
+--     refusal_left, turned_left       a refusal touches nothing
+--     read-.., unread_left, placed_as a body as it was read
+--     held-.., instead-left, on_state_lem what is held
 --     enough-..                       how much of a body is looked at
 --     each_of, each_as                the parts of what is left
 use mathlib.Core.Path.{◌≡◌, refl, sym, ◌∙◌, ap, subst}
@@ -35,7 +35,7 @@ use Rattle.found.specs.Kept.{Kept, kept_in}
 use Rattle.found.specs.Found.{content_is, Placed, Small, kept_is, Framed, Room}
 use Rattle.in_place.specs.Calls.{Left, settled_in, on_state}
 use Rattle.in_place.specs.Steps.{Body, Keeps, left, instead_of, deciding}
-use Rattle.in_place.proofs.Written.{small_bytes, state-shape}
+use Rattle.in_place.proofs.Written.{small_bytes, state_shape_lem}
 
 -- ---- a run of the used bytes
 take_none : {A : Type 0} (n : ℕ) → take {A = A} n [] ≡ []
@@ -50,12 +50,12 @@ run (suc k) (suc n) (x ∷ s) = let e : suc n - suc k ≡ n - k = omega arith in
 
 module _ (buf : List ℕ) (used : ℕ) where
   -- ---- refusals
-  pub refusal-left : (x : Answer) (h : Holder) → (x.number ≡ 0 → ⊥) → left x buf used ≡ settled_in buf used (record { answer = x; holder = h })
+  pub refusal_left : (x : Answer) (h : Holder) → (x.number ≡ 0 → ⊥) → left x buf used ≡ settled_in buf used (record { answer = x; holder = h })
   unfolding settled_in
-  refusal-left x h ne = rw (ne_eqb x.number 0 ne)
+  refusal_left x h ne = rw (ne_eqb x.number 0 ne)
 
   pub turned_left : (h : Holder) (n : ℕ) → (n ≡ 0 → ⊥) → left (refused n 0 0) buf used ≡ settled_in buf used (turned_away h n)
-  turned_left h n ne = refusal-left (refused n 0 0) h ne
+  turned_left h n ne = refusal_left (refused n 0 0) h ne
 
   -- ---- a body as it was read
   module _ (f : Content → Offered) (mark : ℕ) (s : List ℕ) {x : R.Read} (is : content_is s x ≡ content_of mark s) where
@@ -67,9 +67,9 @@ module _ (buf : List ℕ) (used : ℕ) where
     read_answer y told ea e = read_left y told (ap (λ (z : Answer). left z buf used) ea ∙ e)
 
     -- a body's refusal is 2, 3 or 4
-    pub unread-left : (h : Holder) (n : ℕ) → f (refusal n) ≡ turned_away h n → x ≡ R.TheVariants.No n → {a : Answer} → a ≡ refused n 0 0
+    pub unread_left : (h : Holder) (n : ℕ) → f (refusal n) ≡ turned_away h n → x ≡ R.TheVariants.No n → {a : Answer} → a ≡ refused n 0 0
         → left a buf used ≡ settled_in buf used (f (content_of mark s))
-    unread-left h n away told ea =
+    unread_left h n away told ea =
         let c : refusal n ≡ content_of mark s = ap (content_is s) (sym told) ∙ is in
         let g : (2 ≤ n) × (n ≤ 4) = rw (sym c) at (decoded_shape mark s) in
         let two = g.0 in
@@ -82,7 +82,7 @@ module _ (buf : List ℕ) (used : ℕ) where
 
   held-shape : (x : H.Held) → Framed (take used buf) x → Room used (length buf) x → holder_shape (kept_is (take used buf) x).holder ≡ 0
   unfolding holder_shape is_held
-  held-shape (H.TheVariants.Of m) f r = state-shape buf used m (record { within = r; whole = f })
+  held-shape (H.TheVariants.Of m) f r = state_shape_lem buf used m (record { within = r; whole = f })
   held-shape H.TheVariants.Nothing f r = refl
   held-shape (H.TheVariants.No k) f r = refl
 
@@ -93,28 +93,28 @@ module _ (buf : List ℕ) (used : ℕ) where
     held_none : (n : ℕ) → (n ≡ 0 → ⊥) → left (refused n 0 0) buf used ≡ on_state buf used f (kept_is (take used buf) (H.TheVariants.No n))
     held_none n ne = rw (ne_eqb n 0 ne)
 
-    pub held-bad : {x : H.Held} (n : ℕ) {a : Answer} → x ≡ H.TheVariants.No n → Framed (take used buf) x → a ≡ refused n 0 0 → left a buf used ≡ on_state buf used f (kept_is (take used buf) x)
-    held-bad n told fr ea =
+    pub held_bad : {x : H.Held} (n : ℕ) {a : Answer} → x ≡ H.TheVariants.No n → Framed (take used buf) x → a ≡ refused n 0 0 → left a buf used ≡ on_state buf used f (kept_is (take used buf) x)
+    held_bad n told fr ea =
         held-told (H.TheVariants.No n) told (ap (λ (z : Answer). left z buf used) ea ∙ held_none n (subst (Framed (take used buf)) told fr))
 
   -- bytes that hold no state come before a record that is not read
-  instead-is : (n : ℕ) → (n ≡ 0 → ⊥) → (x : H.Held) → Framed (take used buf) x
+  instead_is : (n : ℕ) → (n ≡ 0 → ⊥) → (x : H.Held) → Framed (take used buf) x
       → left (refused (instead_of x n) 0 0) buf used ≡ on_state buf used (λ h. turned_away h n) (kept_is (take used buf) x)
-  instead-is n ne (H.TheVariants.Of m) fr = turned_left _ n ne
-  instead-is n ne H.TheVariants.Nothing fr = turned_left _ n ne
-  instead-is n ne (H.TheVariants.No k) fr = held_none (λ h. turned_away h n) k fr
+  instead_is n ne (H.TheVariants.Of m) fr = turned_left _ n ne
+  instead_is n ne H.TheVariants.Nothing fr = turned_left _ n ne
+  instead_is n ne (H.TheVariants.No k) fr = held_none (λ h. turned_away h n) k fr
 
   -- from what the body gets to what the call leaves
   module _ (x : H.Held) (kept : kept_is (take used buf) x ≡ kept_in buf used) (fr : Framed (take used buf) x) (rm : Room used (length buf) x) (f : Holder → Offered) where
-    pub on-state : (g : Holder → Offered) → ((h : Holder) → holder_shape h ≡ 0 → g h ≡ f h) → {l : Left} → l ≡ on_state buf used g (kept_is (take used buf) x) → l ≡ on_state buf used f (kept_in buf used)
-    on-state g same p =
+    pub on_state_lem : (g : Holder → Offered) → ((h : Holder) → holder_shape h ≡ 0 → g h ≡ f h) → {l : Left} → l ≡ on_state buf used g (kept_is (take used buf) x) → l ≡ on_state buf used f (kept_in buf used)
+    on_state_lem g same p =
         p
         ∙ ap (λ (o : Offered). pick (eqb (kept_is (take used buf) x).number 0) (settled_in buf used o) (left (refused (kept_is (take used buf) x).number 0 0) buf used)) (same (kept_is (take used buf) x).holder (held-shape x fr rm))
         ∙ ap (λ (k : Kept). on_state buf used f k) kept
 
     pub instead-left : (n : ℕ) → (n ≡ 0 → ⊥) → ((h : Holder) → holder_shape h ≡ 0 → turned_away h n ≡ f h) → {a : Answer} → a ≡ refused (instead_of x n) 0 0
         → left a buf used ≡ on_state buf used f (kept_in buf used)
-    instead-left n ne same ea = on-state (λ h. turned_away h n) same (ap (λ (z : Answer). left z buf used) ea ∙ instead-is n ne x fr)
+    instead-left n ne same ea = on_state_lem (λ h. turned_away h n) same (ap (λ (z : Answer). left z buf used) ea ∙ instead_is n ne x fr)
 
 pub placed_as : (s : List ℕ) {x : R.Read} (y : R.Read) → x ≡ y → Placed s x → Placed s y
 placed_as s y told p = subst (Placed s) told p
@@ -122,11 +122,11 @@ placed_as s y told p = subst (Placed s) told p
 -- ---- how much of a body is looked at
 few : (n : ℕ) → (deciding n ≤ n) × (deciding n ≤ 10086)
 unfolding deciding
-few n = by-test (ltb n 10086) refl
+few n = by_test (ltb n 10086) refl
   where
-    by-test : (t : Bool) → ltb n 10086 ≡ t → (pick t n 10086 ≤ n) × (pick t n 10086 ≤ 10086)
-    by-test true e = let p = ltb-true n 10086 e in (omega arith, omega arith)
-    by-test false e = let p = ltb-false n 10086 e in (p, omega arith)
+    by_test : (t : Bool) → ltb n 10086 ≡ t → (pick t n 10086 ≤ n) × (pick t n 10086 ≤ 10086)
+    by_test true e = let p = ltb-true n 10086 e in (omega arith, omega arith)
+    by_test false e = let p = ltb-false n 10086 e in (p, omega arith)
 
 pub enough-short : (n : ℕ) → n < 10086 → n ≡ deciding n
 unfolding deciding
@@ -145,20 +145,20 @@ bytes_small (x ∷ s) b zero = b.0
 bytes_small (x ∷ s) b (suc i) = bytes_small s b.1 i
 
 module _ (s : List ℕ) (m : ℕ) (e : m ≡ deciding (length s)) where
-  pub enough-body : Small s → Body (take (m - 0) (drop 0 s))
-  enough-body small =
+  pub enough_body : Small s → Body (take (m - 0) (drop 0 s))
+  enough_body small =
       let most : m ≤ 10086 = rw e (few (length s)).1 in
       let long : length (take (m - 0) (drop 0 s)) ≤ 65535 = simp length-take (omega arith) in
       record { long = long; small = bytes_small (take (m - 0) (drop 0 s)) (bytes_take (m - 0) (drop 0 s) (small_bytes s small)) }
 
   -- the bytes that are looked at decide
-  pub enough-decides : (mark : ℕ) → content_of mark (take (m - 0) (drop 0 s)) ≡ content_of mark s
+  pub enough_decides : (mark : ℕ) → content_of mark (take (m - 0) (drop 0 s)) ≡ content_of mark s
   unfolding deciding
-  enough-decides mark = rw (sub-zero, e) (by-test (ltb (length s) 10086) refl)
+  enough_decides mark = rw (sub-zero, e) (by_test (ltb (length s) 10086) refl)
     where
-      by-test : (t : Bool) → ltb (length s) 10086 ≡ t → content_of mark (take (pick t (length s) 10086) s) ≡ content_of mark s
-      by-test true p = ap (content_of mark) (take-length s)
-      by-test false p = first-bytes mark 10086 s (omega arith) (ltb-false (length s) 10086 p)
+      by_test : (t : Bool) → ltb (length s) 10086 ≡ t → content_of mark (take (pick t (length s) 10086) s) ≡ content_of mark s
+      by_test true p = ap (content_of mark) (take-length s)
+      by_test false p = first-bytes mark 10086 s (omega arith) (ltb-false (length s) 10086 p)
 
 -- ---- the parts of what is left
 pub each_of : {l x : Left} → l ≡ x → (l.answer ≡ x.answer) × ((l.bytes ≡ x.bytes) × (l.used ≡ x.used))

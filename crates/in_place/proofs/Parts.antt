@@ -1,5 +1,5 @@
 -- The next state's loose fields, and where the runs of a record's bytes start and end. Assumes nothing.
---     moves, kept-flag, cleared-flag   the flag of an inception, of a rotation
+--     moves, kept-flag, cleared_flag   the flag of an inception, of a rotation
 --     settle-..                        what a writing leaves, by its answer
 --     ..-runs                          the bounds of a record's runs
 use mathlib.Core.Path.{◌≡◌, sym, ◌∙◌, ap, ap₂}
@@ -24,7 +24,7 @@ use Rattle.record.specs.declared.StateMarks.{StateMarks}
 use Rattle.record.specs.Marks.{inception_places, rotation_places, interaction_places, snapshot_places, state_of}
 use Rattle.snapshot.specs.declared.Loose.{Loose}
 use Rattle.snapshot.specs.Assembled.{loose_of}
-use Rattle.canonical.proofs.Laws.{inception-point, inception-signers, rotation-point, rotation-signers, interaction-point, snapshot-signers, snapshot-last}
+use Rattle.canonical.proofs.Laws.{inception_point, inception-signers, rotation_point, rotation-signers, interaction_point, snapshot_signers, snapshot_last}
 use Rattle.found.specs.Found.{Got, Small}
 use Rattle.in_place.specs.Calls.{after_saving}
 use Rattle.in_place.specs.Steps.{Body, state_at, Keeps, left}
@@ -36,8 +36,8 @@ pub moves : (h : Head) (b : E.Body) (p : Item) (n : ℕ) (t : Bool) → p ≡ h.
 moves h b p n t ep en et = et ∙ ap₂ (λ (q : Item) (k : ℕ). moves_with q.code k) ep en
 
 module _ (n k : ℕ) (e : n ≡ k) (t : Bool) where
-  pub cleared-flag : n ≡ 0 → false ≡ both (not (eqb k 0)) t
-  cleared-flag z = rw (← e, eq-eqb n 0 z)
+  pub cleared_flag : n ≡ 0 → false ≡ both (not (eqb k 0)) t
+  cleared_flag z = rw (← e, eq-eqb n 0 z)
 
   pub kept-flag : (n ≡ 0 → ⊥) → t ≡ both (not (eqb k 0)) t
   kept-flag ne = rw (← e, ne_eqb n 0 ne)
@@ -49,8 +49,8 @@ made p q latest w v toad c d t u ep ew ec et = rw (ep, ew, ec, et)
 
 -- ---- the body of the record in the used bytes
 module _ (buf : List ℕ) (used : ℕ) (m : StateMarks) (k : Keeps buf used m) where
-  pub four-used : 4 ≤ used
-  four-used =
+  pub four_used : 4 ≤ used
+  four_used =
       let f = k.whole.four in
       let e : length (take used buf) ≤ used = simp length-take (omega arith) in
       omega arith
@@ -61,8 +61,8 @@ rolled-part buf used m h b list x e = e ∙ ap (λ (l : List ℕ). loose_of (rot
 
 -- ---- what a writing leaves
 module _ (used : ℕ) (p : Answer × List ℕ) (y : Answer) (buf : List ℕ) (ey : y ≡ p.0) (eb : buf ≡ p.1) where
-  pub settle-full : (y.number ≡ 0 → ⊥) → left y buf used ≡ after_saving used accepted p
-  settle-full ne =
+  pub settle_full : (y.number ≡ 0 → ⊥) → left y buf used ≡ after_saving used accepted p
+  settle_full ne =
       let k : p.0.number ≡ 0 → ⊥ = λ e. ne (ap (λ (z : Answer). z.number) ey ∙ e) in
       rw (ne_eqb p.0.number 0 k, ey, eb)
 
@@ -84,24 +84,24 @@ pub record Runs (s : List ℕ) (from : ℕ) (first : ℕ) : Type 0 where
 module _ (s : List ℕ) (body : Body s) where
   pub inception-runs : (m : EventMarks) → Got (inception_places s 0) m → Runs s 82 m.body.additions.first
   inception-runs m g =
-      let p = inception-point s (small_bytes s body.small) m g.next g.is in
+      let p = inception_point s (small_bytes s body.small) m g.next g.is in
       let q = inception-signers s (small_bytes s body.small) m g.next g.is in
       let n = q.count in
       record { point = p.room; some = omega arith; starts = q.starts; room = q.room }
 
   pub rotation-runs : (m : EventMarks) → Got (rotation_places s 0) m → Runs s 115 m.body.additions.first
   rotation-runs m g =
-      let p = rotation-point s (small_bytes s body.small) m g.next g.is in
+      let p = rotation_point s (small_bytes s body.small) m g.next g.is in
       let q = rotation-signers s (small_bytes s body.small) m g.next g.is in
       let n = q.count in
       record { point = p.room; some = omega arith; starts = q.starts; room = q.room }
 
-  pub snapshot-runs : (m : StateMarks) → Got (snapshot_places s 0) m → Runs s 83 m.body.additions.first
-  snapshot-runs m g =
-      let l = (snapshot-last s (small_bytes s body.small) m g.next g.is).room in
-      let q = snapshot-signers s (small_bytes s body.small) m g.next g.is in
+  pub snapshot_runs : (m : StateMarks) → Got (snapshot_places s 0) m → Runs s 83 m.body.additions.first
+  snapshot_runs m g =
+      let l = (snapshot_last s (small_bytes s body.small) m g.next g.is).room in
+      let q = snapshot_signers s (small_bytes s body.small) m g.next g.is in
       let n = q.count in
       record { point = omega arith; some = omega arith; starts = q.starts; room = q.room }
 
 pub interaction-room : (s : List ℕ) → Small s → (m : EventMarks) → Got (interaction_places s 0) m → 82 ≤ length s
-interaction-room s small m g = (interaction-point s (small_bytes s small) m g.next g.is).room
+interaction-room s small m g = (interaction_point s (small_bytes s small) m g.next g.is).room

@@ -32,10 +32,10 @@ use Rattle.parts.specs.Parts.{head_of, body_of}
 use Rattle.record.specs.declared.EventMarks.{EventMarks}
 use Rattle.record.specs.declared.StateMarks.{StateMarks}
 use Rattle.record.specs.Marks.{inception_places, rotation_places, interaction_places, snapshot_places, state_of, event_of}
-use Rattle.record.proofs.Laws.{inception-value, rotation-value, interaction-value, snapshot-value}
+use Rattle.record.proofs.Laws.{inception-value, rotation-value, interaction-value, snapshot_value}
 use Rattle.canonical.specs.Bytes.{Bytes}
 use Rattle.resume.proofs.Decoded.{bytes_drop}
-use Rattle.resume.proofs.Theorems.{Sound, sound-snapshot}
+use Rattle.resume.proofs.Theorems.{Sound, sound_snapshot}
 use Rattle.resume.proofs.Stays.{begun-shape, rotated-shape, stepped-shape}
 use Rattle.snapshot.specs.declared.Loose.{Loose}
 use Rattle.writer.specs.Writing.{be, over}
@@ -43,7 +43,7 @@ use Rattle.snapshot.specs.Saved.{point_bytes, group_bytes, encoded}
 use Rattle.snapshot.specs.Assembled.{framed, loose_of, placed, fitting, assembled, pointed}
 use Rattle.snapshot.proofs.Assembled.{joined_body, framed_body, saved-placed, stepped-bytes, stepped-length}
 use Rattle.snapshot.proofs.Size.{item_size}
-use Rattle.canonical.proofs.Laws.{inception-point, inception-signers, rotation-point, rotation-signers, interaction-point, snapshot-point, snapshot-signers, snapshot-last, snapshot-whole, few_items, few_traits}
+use Rattle.canonical.proofs.Laws.{inception_point, inception-signers, rotation_point, rotation-signers, interaction_point, snapshot_point, snapshot_signers, snapshot_last, snapshot_whole, few_items, few_traits}
 use Rattle.found.specs.Found.{Got, Small}
 use Rattle.in_place.specs.Calls.{Left, after_saving, settled_in}
 use Rattle.in_place.specs.Steps.{Body, state_at, Keeps, left, took}
@@ -55,40 +55,40 @@ small_bytes (b ∷ s) f = (f 0, small_bytes s (λ i. f (suc i)))
 
 -- ---- what a scan gave
 module _ (s : List ℕ) where
-  content-inception : (m : EventMarks) → Got (inception_places s 0) m → content_of 0x4943 s ≡ event (event_of Inception s m)
+  content_inception : (m : EventMarks) → Got (inception_places s 0) m → content_of 0x4943 s ≡ event (event_of Inception s m)
   unfolding content_of
-  content-inception m g = rw (← inception-value s 0, g.is)
+  content_inception m g = rw (← inception-value s 0, g.is)
 
-  content-rotation : (m : EventMarks) → Got (rotation_places s 0) m → content_of 0x524F s ≡ event (event_of Rotation s m)
+  content_rotation : (m : EventMarks) → Got (rotation_places s 0) m → content_of 0x524F s ≡ event (event_of Rotation s m)
   unfolding content_of
-  content-rotation m g = rw (← rotation-value s 0, g.is)
+  content_rotation m g = rw (← rotation-value s 0, g.is)
 
-  content-interaction : (m : EventMarks) → Got (interaction_places s 0) m → content_of 0x4958 s ≡ event (event_of Interaction s m)
+  content_interaction : (m : EventMarks) → Got (interaction_places s 0) m → content_of 0x4958 s ≡ event (event_of Interaction s m)
   unfolding content_of
-  content-interaction m g = rw (← interaction-value s 0, g.is)
+  content_interaction m g = rw (← interaction-value s 0, g.is)
 
-  content-snapshot : (m : StateMarks) → Got (snapshot_places s 0) m → content_of 0x4B53 s ≡ snapshot (state_of s m)
+  content_snapshot : (m : StateMarks) → Got (snapshot_places s 0) m → content_of 0x4B53 s ≡ snapshot (state_of s m)
   unfolding content_of
-  content-snapshot m g = rw (← snapshot-value s 0, g.is)
+  content_snapshot m g = rw (← snapshot_value s 0, g.is)
 
   inception-shape : (m : EventMarks) → Got (inception_places s 0) m → shape_as Inception (event_of Inception s m) ≡ 0
   unfolding event_shape
-  inception-shape m g = let e : Shaped (event (event_of Inception s m)) = rw (content-inception m g) at (decoded_shape 0x4943 s) in e
+  inception-shape m g = let e : Shaped (event (event_of Inception s m)) = rw (content_inception m g) at (decoded_shape 0x4943 s) in e
 
   -- a prefix that was read is one: 3 does not come again
-  pub prefix-read : (m : EventMarks) → Got (inception_places s 0) m → of_prefix (item_of s m.head.prefix) (incepted (event_of Inception s m)) ≡ incepted (event_of Inception s m)
-  prefix-read m g = of_good (item_of s m.head.prefix) (incepted (event_of Inception s m)) (good_prefix (event_of Inception s m) (inception-shape m g)) (clean_inception _ _ _ _ _)
+  pub prefix_read : (m : EventMarks) → Got (inception_places s 0) m → of_prefix (item_of s m.head.prefix) (incepted (event_of Inception s m)) ≡ incepted (event_of Inception s m)
+  prefix_read m g = of_good (item_of s m.head.prefix) (incepted (event_of Inception s m)) (good_prefix (event_of Inception s m) (inception-shape m g)) (clean_inception _ _ _ _ _)
 
   rotation-shape : (m : EventMarks) → Got (rotation_places s 0) m → shape_as Rotation (event_of Rotation s m) ≡ 0
   unfolding event_shape
-  rotation-shape m g = let e : Shaped (event (event_of Rotation s m)) = rw (content-rotation m g) at (decoded_shape 0x524F s) in e
+  rotation-shape m g = let e : Shaped (event (event_of Rotation s m)) = rw (content_rotation m g) at (decoded_shape 0x524F s) in e
 
   interaction-shape : (m : EventMarks) → Got (interaction_places s 0) m → shape_as Interaction (event_of Interaction s m) ≡ 0
   unfolding event_shape
-  interaction-shape m g = let e : Shaped (event (event_of Interaction s m)) = rw (content-interaction m g) at (decoded_shape 0x4958 s) in e
+  interaction-shape m g = let e : Shaped (event (event_of Interaction s m)) = rw (content_interaction m g) at (decoded_shape 0x4958 s) in e
 
-  snapshot-shape : (m : StateMarks) → Got (snapshot_places s 0) m → state_shape (state_of s m) ≡ 0
-  snapshot-shape m g = let e : Shaped (snapshot (state_of s m)) = rw (content-snapshot m g) at (decoded_shape 0x4B53 s) in e
+  snapshot_shape : (m : StateMarks) → Got (snapshot_places s 0) m → state_shape (state_of s m) ≡ 0
+  snapshot_shape m g = let e : Shaped (snapshot (state_of s m)) = rw (content_snapshot m g) at (decoded_shape 0x4B53 s) in e
 
 -- ---- a state put together from its runs
 fits_all : (x : Loose) (point signers last : List ℕ) → x.witnessing.witnesses.count ≤ 16 → x.config.count ≤ 8
@@ -113,14 +113,14 @@ module _ (buf : List ℕ) (used : ℕ) (s : KeyState) (shape : state_shape s ≡
     (nl : length last ≤ 49)
     (ng : length signers ≤ 65535)
   where
-    assembled-state : assembled (loose_of s) point signers last buf ≡ placed (encoded s) buf
+    assembled_state : assembled (loose_of s) point signers last buf ≡ placed (encoded s) buf
     unfolding assembled
-    assembled-state =
+    assembled_state =
         rw (fits_all (loose_of s) point signers last few traits np nl ng, joined_body s point signers last p g l, framed_body s)
 
     written : (x : Loose) → x ≡ loose_of s → (r : Left) → r ≡ after_saving used accepted (assembled x point signers last buf) → r ≡ settled_in buf used (took s)
     unfolding settled_in
-    written x ex r er = er ∙ rw (ex, assembled-state, saved-placed s buf shape)
+    written x ex r er = er ∙ rw (ex, assembled_state, saved-placed s buf shape)
 
 -- ---- an inception: the runs are the record's own
 module _ (buf : List ℕ) (used : ℕ) (s : List ℕ) (body : Body s) (r : Left) (x : Loose) where
@@ -129,7 +129,7 @@ module _ (buf : List ℕ) (used : ℕ) (s : List ℕ) (body : Body s) (r : Left)
         → r ≡ after_saving used accepted (assembled x (take (82 - 33) (drop 33 s)) (take (m.body.additions.first - 1 - 82) (drop 82 s)) (take (82 - 33) (drop 33 s)) buf)
         → r ≡ settled_in buf used (took (genesis (head_of s m.head) (body_of s m.body)))
     begun-settled ex er =
-        let p = inception-point s (small_bytes s body.small) m g.next g.is in
+        let p = inception_point s (small_bytes s body.small) m g.next g.is in
         let q = inception-signers s (small_bytes s body.small) m g.next g.is in
         let n : length (take 49 (drop 33 s)) ≤ 49 = simp length-take (omega arith) in
         written buf used (genesis (head_of s m.head) (body_of s m.body))
@@ -144,16 +144,16 @@ module _ (buf : List ℕ) (used : ℕ) (s : List ℕ) (body : Body s) (r : Left)
         → r ≡ after_saving used accepted (assembled x (take (82 - 33) (drop 33 s)) (take (m.body.additions.first - 1 - 83) (drop 83 s)) (take (length s - (length s - 49)) (drop (length s - 49) s)) buf)
         → r ≡ settled_in buf used (took (state_of s m))
     taken-settled ex er =
-        let p = snapshot-point s (small_bytes s body.small) m g.next g.is in
-        let q = snapshot-signers s (small_bytes s body.small) m g.next g.is in
-        let l = snapshot-last s (small_bytes s body.small) m g.next g.is in
+        let p = snapshot_point s (small_bytes s body.small) m g.next g.is in
+        let q = snapshot_signers s (small_bytes s body.small) m g.next g.is in
+        let l = snapshot_last s (small_bytes s body.small) m g.next g.is in
         let n : length (take 49 (drop 33 s)) ≤ 49 = simp length-take (omega arith) in
         let room = l.room in
         let k : length (drop (length s - 49) s) ≡ 49 = simp length-drop (omega arith) in
         let w : length s - (length s - 49) ≡ length (drop (length s - 49) s) = simp length-drop (omega arith) in
         let all : take (length s - (length s - 49)) (drop (length s - 49) s) ≡ drop (length s - 49) s = rw w (take-length _) in
         let nl : length (drop (length s - 49) s) ≤ 49 = omega arith in
-        written buf used (state_of s m) (snapshot-shape s m g)
+        written buf used (state_of s m) (snapshot_shape s m g)
         (few_items s m.body.additions.count m.body.additions.first)
         (few_traits s m.body.config.count m.body.config.first)
         (take 49 (drop 33 s)) (take (m.body.additions.first - 1 - 83) (drop 83 s)) (drop (length s - 49) s)
@@ -186,26 +186,26 @@ module _ (buf : List ℕ) (used : ℕ) (m : StateMarks) (k : Keeps buf used m) w
   inner : Bytes (drop 4 (take used buf))
   inner = bytes_drop 4 (take used buf) (small_bytes (take used buf) k.whole.small)
 
-  pub state-shape : state_shape (state_at buf used m) ≡ 0
-  state-shape = snapshot-shape (drop 4 (take used buf)) m k.whole.scanned
+  pub state_shape_lem : state_shape (state_at buf used m) ≡ 0
+  state_shape_lem = snapshot_shape (drop 4 (take used buf)) m k.whole.scanned
 
-  state-bytes : encoded (state_at buf used m) ≡ take used buf
-  state-bytes =
+  state_bytes : encoded (state_at buf used m) ≡ take used buf
+  state_bytes =
       let w = k.whole in
-      let e = snapshot-whole (drop 4 (take used buf)) inner m w.scanned.next w.scanned.is in
+      let e = snapshot_whole (drop 4 (take used buf)) inner m w.scanned.next w.scanned.is in
       sym (framed_body (state_at buf used m)) ∙ ap framed e ∙ framed_whole (take used buf) (small_bytes (take used buf) w.small) w.four w.marked w.sized
 
   used-long : length (take used buf) ≡ used
   used-long = let h = k.within in simp length-take (omega arith)
 
-  state-over : over 0 (encoded (state_at buf used m)) buf ≡ buf
+  state_over : over 0 (encoded (state_at buf used m)) buf ≡ buf
   unfolding over
-  state-over = rw (state-bytes, used-long, zero-add) (take-append-drop used buf)
+  state_over = rw (state_bytes, used-long, zero-add) (take-append-drop used buf)
 
   room-87 : 87 ≤ length buf
   room-87 =
       let h = k.within in
-      let l = (snapshot-last (drop 4 (take used buf)) inner m k.whole.scanned.next k.whole.scanned.is).room in
+      let l = (snapshot_last (drop 4 (take used buf)) inner m k.whole.scanned.next k.whole.scanned.is).room in
       let d : length (drop 4 (take used buf)) ≡ used - 4 = simp (length-drop, used-long) in
       omega arith
 
@@ -218,38 +218,38 @@ module _ (buf : List ℕ) (used : ℕ) (m : StateMarks) (k : Keeps buf used m) w
     H = head_of s e.head
 
     sound : Sound (holding S)
-    sound = sound-snapshot 0x4B53 (drop 4 (take used buf)) inner S (content-snapshot (drop 4 (take used buf)) m k.whole.scanned)
+    sound = sound_snapshot 0x4B53 (drop 4 (take used buf)) inner S (content_snapshot (drop 4 (take used buf)) m k.whole.scanned)
 
     held : is_held (holding S) ≡ true
     unfolding is_held
     held = refl
 
-    old-point : length (point_bytes S.sn S.said) ≡ 49
-    old-point =
-        let p = snapshot-point (drop 4 (take used buf)) inner m k.whole.scanned.next k.whole.scanned.is in
+    old_point : length (point_bytes S.sn S.said) ≡ 49
+    old_point =
+        let p = snapshot_point (drop 4 (take used buf)) inner m k.whole.scanned.next k.whole.scanned.is in
         rw p.is at (run-49 33 (drop 4 (take used buf)) p.room)
 
-    new-point : length (point_bytes H.sn H.said) ≡ 49
-    new-point =
-        let p = interaction-point s (small_bytes s small) e g.next g.is in
+    new_point : length (point_bytes H.sn H.said) ≡ 49
+    new_point =
+        let p = interaction_point s (small_bytes s small) e g.next g.is in
         rw p.is at (run-49 33 s p.room)
 
     stepped-over : pointed (take (82 - 33) (drop 33 s)) buf ≡ over 0 (encoded (stepped S H)) buf
     unfolding pointed
     stepped-over =
-        let p = interaction-point s (small_bytes s small) e g.next g.is in
-        let fit : length (encoded S) ≤ length buf = rw (state-bytes, used-long) k.within in
+        let p = interaction_point s (small_bytes s small) e g.next g.is in
+        let fit : length (encoded S) ≤ length buf = rw (state_bytes, used-long) k.within in
         rw (eq-eqb _ _ (run-49 33 s p.room), le-leb 87 (length buf) room-87, p.is)
-        (ap (over 37 (point_bytes H.sn H.said ++ (2 ∷ []))) (sym state-over)
-        ∙ stepped-bytes S H buf (item_size S.prefix (sound.real held).prefix) old-point new-point fit)
+        (ap (over 37 (point_bytes H.sn H.said ++ (2 ∷ []))) (sym state_over)
+        ∙ stepped-bytes S H buf (item_size S.prefix (sound.real held).prefix) old_point new_point fit)
 
     stepped-used : length (encoded (stepped S H)) ≡ used
-    stepped-used = stepped-length S H old-point new-point ∙ ap (λ (l : List ℕ). length l) state-bytes ∙ used-long
+    stepped-used = stepped-length S H old_point new_point ∙ ap (λ (l : List ℕ). length l) state_bytes ∙ used-long
 
     pub stepped-settled : left accepted (pointed (take (82 - 33) (drop 33 s)) buf) used ≡ settled_in buf used (took (stepped S H))
     unfolding settled_in placed
     stepped-settled =
-        rw (saved-placed (stepped S H) buf (stepped-shape S (event_of Interaction s e) state-shape (interaction-shape s e g)), stepped-used, le-leb used (length buf) k.within, stepped-over)
+        rw (saved-placed (stepped S H) buf (stepped-shape S (event_of Interaction s e) state_shape_lem (interaction-shape s e g)), stepped-used, le-leb used (length buf) k.within, stepped-over)
 
   -- ---- a rotation: its runs, with the new list
   module _ (s : List ℕ) (body : Body s) (e : EventMarks) (g : Got (rotation_places s 0) e) (list : Items)
@@ -262,12 +262,12 @@ module _ (buf : List ℕ) (used : ℕ) (m : StateMarks) (k : Keeps buf used m) w
           → r ≡ after_saving used accepted (assembled x (take (82 - 33) (drop 33 s)) (take (e.body.additions.first - 1 - 115) (drop 115 s)) (take (82 - 33) (drop 33 s)) buf)
           → r ≡ settled_in buf used (took (rotated (state_at buf used m) (head_of s e.head) (body_of s e.body) list))
       rolled-settled ex er =
-          let p = rotation-point s (small_bytes s body.small) e g.next g.is in
+          let p = rotation_point s (small_bytes s body.small) e g.next g.is in
           let q = rotation-signers s (small_bytes s body.small) e g.next g.is in
           let n : length (take 49 (drop 33 s)) ≤ 49 = simp length-take (omega arith) in
           let few-new : length (new_witnesses (state_at buf used m) (body_of s e.body)) ≤ 16 = rw el at few in
           let shape : state_shape (rotated (state_at buf used m) (head_of s e.head) (body_of s e.body) list) ≡ 0 =
-          rw el (rotated-shape (state_at buf used m) (event_of Rotation s e) state-shape few-new (rotation-shape s e g)) in
+          rw el (rotated-shape (state_at buf used m) (event_of Rotation s e) state_shape_lem few-new (rotation-shape s e g)) in
           written buf used (rotated (state_at buf used m) (head_of s e.head) (body_of s e.body) list) shape few
           (few_traits (drop 4 (take used buf)) m.body.config.count m.body.config.first)
           (take 49 (drop 33 s)) (take (e.body.additions.first - 1 - 115) (drop 115 s)) (take 49 (drop 33 s))

@@ -40,22 +40,22 @@ none = refl
 
 -- the groups of a basic prefix, one after the other
 module _ (prefix : Item) (keys : Items) (t : Threshold) (next witnesses anchors : ℕ) where
-  pub not-basic : basic_of prefix.code ≡ false → identity prefix keys t next witnesses anchors ≡ accepted
+  pub not_basic : basic_of prefix.code ≡ false → identity prefix keys t next witnesses anchors ≡ accepted
   unfolding identity
-  not-basic b = rw b
+  not_basic b = rw b
 
   module _ (b : basic_of prefix.code ≡ true) (sole : Answer) (e : sole ≡ first_refusal (sole_key prefix keys t)) where
-    pub not-sole : (sole.number ≡ 0 → ⊥) → identity prefix keys t next witnesses anchors ≡ sole
+    pub not_sole : (sole.number ≡ 0 → ⊥) → identity prefix keys t next witnesses anchors ≡ sole
     unfolding identity
-    not-sole h = rw (b, ← e) (stopped sole _ h)
+    not_sole h = rw (b, ← e) (stopped sole _ h)
 
-    pub may-commit : sole.number ≡ 0 → transferable_of prefix.code ≡ true → identity prefix keys t next witnesses anchors ≡ accepted
+    pub may_commit_lem : sole.number ≡ 0 → transferable_of prefix.code ≡ true → identity prefix keys t next witnesses anchors ≡ accepted
     unfolding identity
-    may-commit h m = rw (b, m, ← e) (passed sole (accepted ∷ []) h ∙ none)
+    may_commit_lem h m = rw (b, m, ← e) (passed sole (accepted ∷ []) h ∙ none)
 
-    pub may-not-commit : sole.number ≡ 0 → transferable_of prefix.code ≡ false
+    pub may_not_commit : sole.number ≡ 0 → transferable_of prefix.code ≡ false
         → identity prefix keys t next witnesses anchors ≡ first_refusal (commits_nothing next witnesses anchors)
     unfolding identity
-    may-not-commit h m =
+    may_not_commit h m =
         let group = commits_nothing next witnesses anchors in
         rw (b, m, ← e) (passed sole (first_refusal group ∷ []) h ∙ sym (last (first_refusal group) (first_refusal group) (clean_first group) refl))

@@ -18,7 +18,7 @@ use Rattle.member_set.specs.declared.Change.{Change}
 use Rattle.verification.specs.Verification.{signatures}
 use Rattle.evidence.specs.declared.Evidence.{Evidence}
 use Rattle.evidence.specs.Evidence.{evidence_of, signed_on, exposed_on, receipted_on}
-use Rattle.evidence.proofs.Laws.{signed_is, exposed-is, receipted-is}
+use Rattle.evidence.proofs.Laws.{signed_is, exposed_is, receipted_is}
 use Rattle.event.specs.declared.Ilk.{Ilk}
 use Rattle.event.specs.declared.Ilk.TheVariants.{Inception, Rotation, Interaction, DelegatedInception, DelegatedRotation}
 use Rattle.event.specs.declared.Head.{Head}
@@ -45,31 +45,31 @@ new_list d whole new e z = rw e (rw (eq-eqb whole.number 0 (rw e at z)))
 
 -- ---- by the event's ilk
 module _ (h : Holder) (e : Event) (k : Ilk) (told : e.ilk ≡ k) where
-  pub nothing-as : settled h (on_nothing k e) (holding (next_as k h.state e)) ≡ settled h (on_nothing e.ilk e) (holding (next_state h.state e))
+  pub nothing_as : settled h (on_nothing k e) (holding (next_as k h.state e)) ≡ settled h (on_nothing e.ilk e) (holding (next_state h.state e))
   unfolding next_state
-  nothing-as = ap (λ (i : Ilk). settled h (on_nothing i e) (holding (next_as i h.state e))) (sym told)
+  nothing_as = ap (λ (i : Ilk). settled h (on_nothing i e) (holding (next_as i h.state e))) (sym told)
 
-  pub live-as : settled h (where_live k h.state e) (holding (next_as k h.state e)) ≡ settled h (where_live e.ilk h.state e) (holding (next_state h.state e))
+  pub live_as : settled h (where_live k h.state e) (holding (next_as k h.state e)) ≡ settled h (where_live e.ilk h.state e) (holding (next_state h.state e))
   unfolding next_state
-  live-as = ap (λ (i : Ilk). settled h (where_live i h.state e) (holding (next_as i h.state e))) (sym told)
+  live_as = ap (λ (i : Ilk). settled h (where_live i h.state e) (holding (next_as i h.state e))) (sym told)
 
 -- ---- from sets of places to lists of signatures
 module _ (e : Event) (keys next : ℕ) (v : Evidence) (is : v ≡ evidence_of keys next (signatures e.sigs) (signatures e.receipts)) where
   signed_by_lem : (t : _) → signed_on t v ≡ Rattle.authority.specs.Authority.signed_by t keys (signatures e.sigs)
   signed_by_lem t = ap (signed_on t) is ∙ signed_is keys next (signatures e.sigs) (signatures e.receipts) t
 
-  exposed-by : (t : _) → exposed_on t v ≡ Rattle.authority.specs.Authority.exposed_by t keys next (signatures e.sigs)
-  exposed-by t = ap (exposed_on t) is ∙ exposed-is keys next (signatures e.sigs) (signatures e.receipts) t
+  exposed_by_lem : (t : _) → exposed_on t v ≡ Rattle.authority.specs.Authority.exposed_by t keys next (signatures e.sigs)
+  exposed_by_lem t = ap (exposed_on t) is ∙ exposed_is keys next (signatures e.sigs) (signatures e.receipts) t
 
-  receipted-by : (toad : ℕ) → receipted_on toad v ≡ (λ n. Rattle.authority.specs.Authority.receipted_by toad n (signatures e.receipts))
-  receipted-by toad = ap (receipted_on toad) is ∙ receipted-is keys next (signatures e.sigs) (signatures e.receipts) toad
+  receipted_by_lem : (toad : ℕ) → receipted_on toad v ≡ (λ n. Rattle.authority.specs.Authority.receipted_by toad n (signatures e.receipts))
+  receipted_by_lem toad = ap (receipted_on toad) is ∙ receipted_is keys next (signatures e.sigs) (signatures e.receipts) toad
 
 pub incept_lists : (e : Event) (v : Evidence) → v ≡ evidence_of e.body.authority.keys.count 0 (signatures e.sigs) (signatures e.receipts)
     → inception e.head e.body e.anchors (signed_on e.body.authority.threshold v) (receipted_on e.body.toad v) ≡ incepted e
 incept_lists e v is =
     ap₂ (λ (x : Answer) (r : ℕ → Answer). inception e.head e.body e.anchors x r)
     (signed_by_lem e e.body.authority.keys.count 0 v is e.body.authority.threshold)
-    (receipted-by e e.body.authority.keys.count 0 v is e.body.toad)
+    (receipted_by_lem e e.body.authority.keys.count 0 v is e.body.toad)
 
 pub rotate_lists : (s : KeyState) (e : Event) (v : Evidence)
     → v ≡ evidence_of e.body.authority.keys.count s.commitment.next.count (signatures e.sigs) (signatures e.receipts)
@@ -78,15 +78,15 @@ rotate_lists s e v is =
     let keys = e.body.authority.keys.count in
     let next = s.commitment.next.count in
     let t = e.body.authority.threshold in
-    ap₂ (λ (x : Answer) (r : ℕ → Answer). rotation s e.head e.body x (exposed_on s.commitment.threshold v) r) (signed_by_lem e keys next v is t) (receipted-by e keys next v is e.body.toad)
-    ∙ ap (λ (y : Answer). rotation s e.head e.body (Rattle.authority.specs.Authority.signed_by t keys (signatures e.sigs)) y (λ n. Rattle.authority.specs.Authority.receipted_by e.body.toad n (signatures e.receipts))) (exposed-by e keys next v is s.commitment.threshold)
+    ap₂ (λ (x : Answer) (r : ℕ → Answer). rotation s e.head e.body x (exposed_on s.commitment.threshold v) r) (signed_by_lem e keys next v is t) (receipted_by_lem e keys next v is e.body.toad)
+    ∙ ap (λ (y : Answer). rotation s e.head e.body (Rattle.authority.specs.Authority.signed_by t keys (signatures e.sigs)) y (λ n. Rattle.authority.specs.Authority.receipted_by e.body.toad n (signatures e.receipts))) (exposed_by_lem e keys next v is s.commitment.threshold)
 
 pub interact_lists : (s : KeyState) (e : Event) (v : Evidence) → v ≡ evidence_of s.authority.keys.count 0 (signatures e.sigs) (signatures e.receipts)
     → interaction s e.head (signed_on s.authority.threshold v) (receipted_on s.witnessing.toad v) ≡ interacts s e
 interact_lists s e v is =
     ap₂ (λ (x : Answer) (r : ℕ → Answer). interaction s e.head x r)
     (signed_by_lem e s.authority.keys.count 0 v is s.authority.threshold)
-    (receipted-by e s.authority.keys.count 0 v is s.witnessing.toad)
+    (receipted_by_lem e s.authority.keys.count 0 v is s.witnessing.toad)
 
 -- ---- a judgement that passes has no details
 pub clean_inception : (h : Head) (b : Body) (anchors : ℕ) (signed : Answer) (receipted : ℕ → Answer) → Clean (inception h b anchors signed receipted)
@@ -125,20 +125,20 @@ of_good prefix x fits clean =
 
 -- ---- an entry: the holder's shape, the event's shape, then x
 module _ (h : Holder) (e : Event) (x : Answer) (after : Holder) (n : ℕ) (en : n ≡ holder_shape h) where
-  pub bad-holder : (n ≡ 0 → ⊥) → record { answer = refused n 0 0; holder = h } ≡ settled h (shaped h e x) after
-  bad-holder ne = stays h (refused n 0 0) _ _ (here (refused n 0 0) (refused (holder_shape h) 0 0) _ (ap (λ (k : ℕ). refused k 0 0) en) ne) ne
+  pub bad_holder : (n ≡ 0 → ⊥) → record { answer = refused n 0 0; holder = h } ≡ settled h (shaped h e x) after
+  bad_holder ne = stays h (refused n 0 0) _ _ (here (refused n 0 0) (refused (holder_shape h) 0 0) _ (ap (λ (k : ℕ). refused k 0 0) en) ne) ne
 
   module _ (zn : n ≡ 0) (m : ℕ) (em : m ≡ event_shape e) where
-    good-holder : (xs : List Answer) → first_refusal (refused (holder_shape h) 0 0 ∷ xs) ≡ first_refusal xs
-    good-holder xs = past (refused n 0 0) (refused (holder_shape h) 0 0) xs (ap (λ (k : ℕ). refused k 0 0) en) zn
+    good_holder : (xs : List Answer) → first_refusal (refused (holder_shape h) 0 0 ∷ xs) ≡ first_refusal xs
+    good_holder xs = past (refused n 0 0) (refused (holder_shape h) 0 0) xs (ap (λ (k : ℕ). refused k 0 0) en) zn
 
-    pub bad-event : (m ≡ 0 → ⊥) → record { answer = refused m 0 0; holder = h } ≡ settled h (shaped h e x) after
-    bad-event ne =
-        stays h (refused m 0 0) _ _ (here (refused m 0 0) (refused (event_shape e) 0 0) _ (ap (λ (k : ℕ). refused k 0 0) em) ne ∙ sym (good-holder _)) ne
+    pub bad_event : (m ≡ 0 → ⊥) → record { answer = refused m 0 0; holder = h } ≡ settled h (shaped h e x) after
+    bad_event ne =
+        stays h (refused m 0 0) _ _ (here (refused m 0 0) (refused (event_shape e) 0 0) _ (ap (λ (k : ℕ). refused k 0 0) em) ne ∙ sym (good_holder _)) ne
 
-    pub good-shape : m ≡ 0 → Clean x → settled h x after ≡ settled h (shaped h e x) after
-    good-shape zm clean =
+    pub good_shape : m ≡ 0 → Clean x → settled h x after ≡ settled h (shaped h e x) after
+    good_shape zm clean =
         ap (λ (y : Answer). settled h y after) (
         last x x clean refl
         ∙ sym (past (refused m 0 0) (refused (event_shape e) 0 0) (x ∷ []) (ap (λ (k : ℕ). refused k 0 0) em) zm)
-        ∙ sym (good-holder _))
+        ∙ sym (good_holder _))

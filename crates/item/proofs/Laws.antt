@@ -19,18 +19,18 @@ use Rattle.item.specs.declared.Kind.TheVariants.{Prefix, Said}
 use Rattle.item.specs.Item.{class_of, basic_class, fits_class, same_item, zero_item, is_zero}
 
 module _ (c : ℕ) where
-  pub class-digest : 69 ≤ c → c ≤ 73 → class_of c ≡ Digest
+  pub class_digest : 69 ≤ c → c ≤ 73 → class_of c ≡ Digest
   unfolding class_of
-  class-digest h k =
+  class_digest h k =
       simp (ne_eqb c 66 (λ (e : c ≡ 66). omega arith), ne_eqb c 68 (λ (e : c ≡ 68). omega arith), le-leb _ _ h, le-leb _ _ k)
 
   pub class_low : (c ≡ 66 → ⊥) → (c ≡ 68 → ⊥) → c < 69 → class_of c ≡ Bad
   unfolding class_of
   class_low a b h = simp (ne_eqb c 66 a, ne_eqb c 68 b, lt-leb _ _ h)
 
-  pub class-high : 73 < c → class_of c ≡ Bad
+  pub class_high : 73 < c → class_of c ≡ Bad
   unfolding class_of
-  class-high h =
+  class_high h =
       let l : 69 ≤ c = omega arith in
       simp (ne_eqb c 66 (λ (e : c ≡ 66). omega arith), ne_eqb c 68 (λ (e : c ≡ 68). omega arith), le-leb _ _ l, lt-leb _ _ h)
 
@@ -56,12 +56,12 @@ unfolding same_item
 same_item_refl a = both_in (eqb a.code a.code) (same_numbers a.raw a.raw) (eq-eqb a.code a.code refl) (same_refl a.raw)
 
 pub same_item_swap : (a b : Item) → same_item a b ≡ same_item b a
-same_item_swap a b = by-test (same_item a b) (same_item b a) refl refl
+same_item_swap a b = by_test (same_item a b) (same_item b a) refl refl
   where
-    by-test : (s t : Bool) → same_item a b ≡ s → same_item b a ≡ t → same_item a b ≡ same_item b a
-    by-test true t e f = let g : a ≡ b = same_item_lem a b e in rw g
-    by-test false true e f = let g : b ≡ a = same_item_lem b a f in rw g
-    by-test false false e f = e ∙ sym f
+    by_test : (s t : Bool) → same_item a b ≡ s → same_item b a ≡ t → same_item a b ≡ same_item b a
+    by_test true t e f = let g : a ≡ b = same_item_lem a b e in rw g
+    by_test false true e f = let g : b ≡ a = same_item_lem b a f in rw g
+    by_test false false e f = e ∙ sym f
 
 pub zero_only : (x : Item) → is_zero x ≡ true → x ≡ zero_item
 zero_only x e = sym (same_item_lem zero_item x e)

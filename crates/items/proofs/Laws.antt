@@ -11,7 +11,7 @@ use denote.Laws.{Is}
 use borrow.Author.Tests.{leb-true}
 use Rattle.lists.specs.Lists.{all}
 use Rattle.lists.proofs.Facts.{picks}
-use Rattle.lists.proofs.Padding.{padded-used, is-padded}
+use Rattle.lists.proofs.Padding.{padded-used, is_padded}
 use Rattle.item.specs.declared.Item.{Item}
 use Rattle.item.specs.declared.Kind.{Kind}
 use Rattle.item.specs.Item.{zero_item, is_zero, item_fits}
@@ -52,4 +52,4 @@ packed-listed k l h e =
     let g = good k l e in
     let few : l.count ≤ 16 = g.few in
     let n : length (listed l) ≡ l.count = simp length-take (omega arith) in
-    made (sym n) (is-padded zero_item is_zero zero_only 16 l.count l.at h few g.rest)
+    made (sym n) (is_padded zero_item is_zero zero_only 16 l.count l.at h few g.rest)

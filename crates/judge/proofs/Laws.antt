@@ -27,7 +27,7 @@ use Rattle.event.specs.declared.Ilk.TheVariants.{Inception, Rotation, Interactio
 use Rattle.evidence.specs.declared.Evidence.{Evidence}
 use Rattle.evidence.specs.Evidence.{evidence_of, signed_on, receipted_on}
 use Rattle.rules.specs.Rules.{chains_onto, of_prefix, may_interact, interaction, rewitness, rotation}
-use Rattle.rules.proofs.Laws.{clean_receipts, change_stops, no-toad, no-receipts, rewitnesses}
+use Rattle.rules.proofs.Laws.{clean_receipts, change_stops, no_toad, no-receipts, rewitnesses}
 use Rattle.reserved.proofs.Laws.{incepts}
 use Rattle.ingest.specs.Judgement.{incepted, rotates, interacts}
 use Rattle.ingest.proofs.Laws.{incept_lists, rotate_lists, interact_lists}
@@ -47,11 +47,11 @@ use Rattle.judge.specs.Parts.{list_at, threshold_at, evidence_at, start_at, keys
 -- ---- what is not looked at
 none_of : (s : List ℕ) (p : ℕ) → many_of (item_of s) 33 16 s 0 p ≡ []
 unfolding many_of list_of
-none_of s p = by-test (both (leb 0 16) (leb (p + 0 * 33) (length s)))
+none_of s p = by_test (both (leb 0 16) (leb (p + 0 * 33) (length s)))
   where
-    by-test : (b : Bool) → pick {A = List Item} b [] [] ≡ []
-    by-test true = refl
-    by-test false = refl
+    by_test : (b : Bool) → pick {A = List Item} b [] [] ≡ []
+    by_test true = refl
+    by_test false = refl
 
 nothing_at : (s : List ℕ) (n p : ℕ) → n ≡ 0 → listed (items_of s n p) ≡ []
 unfolding items_of
@@ -89,12 +89,12 @@ module _ (s : List ℕ) (m : EventMarks) (prefix : Item) (keys next witnesses : 
     (en : next ≡ (list_at s m.body.signers.commitment.items).count)
     (ew : witnesses ≡ (list_at s m.body.additions).count)
     (ev : v ≡ evidence_at s m.tail keys 0) where
-  pub inception-at : first_refusal (
+  pub inception_at_lem : first_refusal (
       first_refusal (start_at s m.head m.body prefix next witnesses m.tail.anchors)
       ∷ first_refusal (keys_at s m.body.signers keys next v)
       ∷ first_refusal (witnesses_at m.body.toad witnesses v)
       ∷ []) ≡ of_prefix (item_of s m.head.prefix) (incepted (event_of Inception s m))
-  inception-at =
+  inception_at_lem =
       rw (ep, ek, en, ew)
       (incepts (head_of s m.head) (body_of s m.body) m.tail.anchors (signed_on (threshold_at s m.body.signers.authority) v) (receipted_on m.body.toad v)
       ∙ ap (of_prefix (item_of s m.head.prefix)) (incept_lists (event_of Inception s m) v (gathered s m.tail keys 0 _ 0 v ev ek refl)))
@@ -104,14 +104,14 @@ module _ (st : List ℕ) (sm : StateMarks) (s : List ℕ) (m : EventMarks) (keys
     (ek : keys ≡ (list_at st sm.body.signers.authority.items).count)
     (ew : witnesses ≡ (list_at st sm.body.additions).count)
     (ev : v ≡ evidence_at s m.tail keys 0) where
-  pub interaction-at : first_refusal (
+  pub interaction_at_lem : first_refusal (
       may_interact (config_of st sm.body.config.count sm.body.config.first)
       ∷ chains_at st sm.head s m.head
       ∷ signed_on (threshold_at st sm.body.signers.authority) v
       ∷ receipted_on sm.body.toad v witnesses
       ∷ []) ≡ interacts (state_of st sm) (event_of Interaction s m)
   unfolding interaction
-  interaction-at = rw ew (interact_lists (state_of st sm) (event_of Interaction s m) v (gathered s m.tail keys 0 _ 0 v ev ek refl))
+  interaction_at_lem = rw ew (interact_lists (state_of st sm) (event_of Interaction s m) v (gathered s m.tail keys 0 _ 0 v ev ek refl))
 
 -- ---- a rotation
 pub change_same : (l l' c c' a a' : Items) (toad : ℕ) (v : Evidence) → l ≡ l' → c ≡ c' → a ≡ a'
@@ -143,22 +143,22 @@ few_at s n p = by_tests (leb n 16) refl (leb (p + n * 33) (length s))
 
 -- a list at a place is the struct of what it lists, at most 16
 module _ (s : List ℕ) (n p : ℕ) where
-  pub packed-at : items_of s n p ≡ packed (listed (items_of s n p))
+  pub packed_at : items_of s n p ≡ packed (listed (items_of s n p))
   unfolding items_of
-  packed-at = ap packed (sym (listed-packed (many_of (item_of s) 33 16 s n p)))
+  packed_at = ap packed (sym (listed-packed (many_of (item_of s) 33 16 s n p)))
 
-  pub listed-few : length (listed (items_of s n p)) ≤ 16
+  pub listed_few : length (listed (items_of s n p)) ≤ 16
   unfolding items_of
-  listed-few = rw (listed-packed (many_of (item_of s) 33 16 s n p)) (few_at s n p)
+  listed_few = rw (listed-packed (many_of (item_of s) 33 16 s n p)) (few_at s n p)
 
   pub listed-count : (items_of s n p).count ≡ length (listed (items_of s n p))
-  listed-count = ap (λ (l : Items). l.count) packed-at
+  listed-count = ap (λ (l : Items). l.count) packed_at
 
 module _ (xs : List Item) (few : length xs ≤ 16) (toad : ℕ) (v : Evidence) where
-  abbrev unchangedList : Change
-  unchangedList = record { answer = accepted; list = packed xs }
+  abbrev unchanged_list : Change
+  unchanged_list = record { answer = accepted; list = packed xs }
 
-  has_room : unchangedList ≡ change_of (updated xs [] [])
+  has_room : unchanged_list ≡ change_of (updated xs [] [])
   unfolding change_of
   has_room = rw (updated-same xs, le-leb (length xs) 16 few)
 
@@ -166,10 +166,10 @@ module _ (xs : List Item) (few : length xs ≤ 16) (toad : ℕ) (v : Evidence) w
     fits : x ≡ witness_threshold toad (length xs)
     fits = ex ∙ ap (witness_threshold toad) en
 
-    pub same-toad : (x.number ≡ 0 → ⊥) → record { answer = x; list = packed [] } ≡ changed_at xs [] [] toad v
-    same-toad ne =
+    pub same_toad : (x.number ≡ 0 → ⊥) → record { answer = x; list = packed [] } ≡ changed_at xs [] [] toad v
+    same_toad ne =
         change_stops x _ (updated xs [] [])
-        (no-toad accepted (change_faults xs [] []) (updated xs [] []) toad (receipted_on toad v) (no_change_faults xs) unchangedList has_room refl refl x fits ne)
+        (no_toad accepted (change_faults xs [] []) (updated xs [] []) toad (receipted_on toad v) (no_change_faults xs) unchanged_list has_room refl refl x fits ne)
         ne
 
     module _ (zx : x.number ≡ 0) (y : Answer) (ey : y ≡ receipted_on toad v n) where
@@ -179,12 +179,12 @@ module _ (xs : List Item) (few : length xs ≤ 16) (toad : ℕ) (v : Evidence) w
       pub same-receipts : (y.number ≡ 0 → ⊥) → record { answer = y; list = packed [] } ≡ changed_at xs [] [] toad v
       same-receipts ne =
           change_stops y _ (updated xs [] [])
-          (no-receipts accepted (change_faults xs [] []) (updated xs [] []) toad (receipted_on toad v) (no_change_faults xs) unchangedList has_room refl refl x fits zx y seen ne)
+          (no-receipts accepted (change_faults xs [] []) (updated xs [] []) toad (receipted_on toad v) (no_change_faults xs) unchanged_list has_room refl refl x fits zx y seen ne)
           ne
 
-      pub same-goes : y.number ≡ 0 → record { answer = y; list = packed xs } ≡ changed_at xs [] [] toad v
-      same-goes zy =
-          rewitnesses accepted (change_faults xs [] []) (updated xs [] []) toad (receipted_on toad v) (no_change_faults xs) unchangedList has_room refl refl x fits zx y seen zy
+      pub same_goes : y.number ≡ 0 → record { answer = y; list = packed xs } ≡ changed_at xs [] [] toad v
+      same_goes zy =
+          rewitnesses accepted (change_faults xs [] []) (updated xs [] []) toad (receipted_on toad v) (no_change_faults xs) unchanged_list has_room refl refl x fits zx y seen zy
           (clean_receipts toad _)
 
 pub no_change : (xs : List Item) (s : List ℕ) (cut added : Listing) (toad : ℕ) (v : Evidence) → both (eqb cut.count 0) (eqb added.count 0) ≡ true
@@ -196,16 +196,16 @@ no_change xs s cut added toad v e =
     (sym (nothing_at s added.count added.first (eqb-true added.count 0 none.1)))
 
 module _ (st : List ℕ) (sm : StateMarks) (s : List ℕ) (m : EventMarks) where
-  abbrev pub rewitnessIn : Evidence → Answer
-  rewitnessIn v = rewitness_at (listed (list_at st sm.body.additions)) (listed (list_at s m.body.removals)) (listed (list_at s m.body.additions)) m.body.toad v
+  abbrev pub rewitness_in : Evidence → Answer
+  rewitness_in v = rewitness_at (listed (list_at st sm.body.additions)) (listed (list_at s m.body.removals)) (listed (list_at s m.body.additions)) m.body.toad v
 
-  pub rotation-at : (keys next : ℕ) (v : Evidence)
+  pub rotation_at_lem : (keys next : ℕ) (v : Evidence)
       → keys ≡ (list_at s m.body.signers.authority.items).count
       → next ≡ (list_at st sm.body.signers.commitment.items).count
       → v ≡ evidence_at s m.tail keys next
-      → first_refusal (first_refusal (opening_at st sm s m keys v) ∷ rewitnessIn v ∷ []) ≡ rotates (state_of st sm) (event_of Rotation s m)
+      → first_refusal (first_refusal (opening_at st sm s m keys v) ∷ rewitness_in v ∷ []) ≡ rotates (state_of st sm) (event_of Rotation s m)
   unfolding rotation rewitness
-  rotation-at keys next v ek en ev =
-      grouped (opening_at st sm s m keys v) (rewitnessIn v ∷ [])
-      ∙ ap (λ (n : ℕ). first_refusal (opening_at st sm s m n v ++ (rewitnessIn v ∷ []))) ek
+  rotation_at_lem keys next v ek en ev =
+      grouped (opening_at st sm s m keys v) (rewitness_in v ∷ [])
+      ∙ ap (λ (n : ℕ). first_refusal (opening_at st sm s m n v ++ (rewitness_in v ∷ []))) ek
       ∙ rotate_lists (state_of st sm) (event_of Rotation s m) v (gathered s m.tail keys next _ _ v ev ek en)

@@ -4,7 +4,7 @@ use Rattle.answer.specs.declared.Answer.{Answer}
 use Rattle.state.specs.declared.Holder.{Holder}
 use Rattle.state.specs.State.{is_held}
 use Rattle.format.specs.Parse.{Parse, got, bad, num_at}
-use Rattle.cursor.proofs.Laws.{pair-got, pair-short}
+use Rattle.cursor.proofs.Laws.{pair_got, pair_short}
 use Rattle.writer.specs.Writing.{over}
 use Rattle.lines.specs.Lines.{line, longest, written}
 use Rattle.lines.proofs.Laws.{line_few, end_few}
@@ -69,8 +69,8 @@ found before after old p x e h = rw e at h
 
 -- its mark, as it was read
 module _ (w : List ℕ) (p : Place) {r : Parse ℕ} (is : r ≡ num_at 2 w p.from) where
-  pub mark-is : (v n : ℕ) → r ≡ got v n → v ≡ mark_at w p
-  mark-is v n e = (pair-got w p.from v n (sym e ∙ is)).is
+  pub mark_is : (v n : ℕ) → r ≡ got v n → v ≡ mark_at w p
+  mark_is v n e = (pair_got w p.from v n (sym e ∙ is)).is
 
-  pub mark-there : (k : ℕ) → r ≡ bad k → p.from + 4 ≤ p.to → p.to ≤ length w → 0 ≡ mark_at w p
-  mark-there k e b i = let h = pair-short w p.from k (sym e ∙ is) in absurd (omega arith)
+  pub mark_there : (k : ℕ) → r ≡ bad k → p.from + 4 ≤ p.to → p.to ≤ length w → 0 ≡ mark_at w p
+  mark_there k e b i = let h = pair_short w p.from k (sym e ∙ is) in absurd (omega arith)

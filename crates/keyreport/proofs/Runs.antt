@@ -33,7 +33,7 @@ use Rattle.keyreport.specs.declared.Room.{Room}
 use Rattle.keyreport.specs.declared.Room.TheVariants as R
 use Rattle.keyreport.specs.Run.{mark_at, body_at, Flushed, cut_lines, Finished}
 use Rattle.keyreport.proofs.Laws.{told_tally, told_behind}
-use Rattle.keyreport.proofs.Shown.{step-shown, answer-shown, state-shown, cut-shown, begins}
+use Rattle.keyreport.proofs.Shown.{step_shown, answer_shown, state_shown, cut_shown, begins}
 
 pub bytes_of : (xs : List ℕ) → ((i : ℕ) → Fits w8 (get_or xs i 0)) → Bytes xs
 bytes_of [] h = tt
@@ -99,8 +99,8 @@ begins_run s before lines left buf used none is zero-used =
 given : (known : Option (List ℕ)) (rest : List ℕ) (G : List ℕ → Type 0) → known ≡ Some rest → IfSome known G → G rest
 given known rest G e g = let h : IfSome (Some rest) G = subst (λ (k : Option (List ℕ)). IfSome k G) e g in h
 
-Some-same : (a b : List ℕ) → Some a ≡ Some b → a ≡ b
-Some-same a b e = cc
+Some_same : (a b : List ℕ) → Some a ≡ Some b → a ≡ b
+Some_same a b e = cc
 
 module _ (s : List ℕ) (before mid after : Option (List ℕ)) (lines : List ℕ) (left : Option (List ℕ)) (t : Tally) (buf : List ℕ) (used : ℕ) (pr : Progress s before mid lines left t (kept_in buf used)) where
   -- the state's bytes are good
@@ -127,7 +127,7 @@ module _ (s : List ℕ) (before mid after : Option (List ℕ)) (lines : List ℕ
   cut_run v left' bytes large g f =
       let short : (0 < length pr.rest) × (length pr.rest < size_of pr.rest) = given left pr.rest _ pr.left_is g in
       let one_more : pr.most ≡ suc (pr.most - 1) = (let h = pr.enough in omega (arith, short.0)) in
-      let x : (offered_in buf used []).answer ≡ cut_answer pr.holder = cut-shown buf used bytes large good ∙ ap cut_answer same_holder in
+      let x : (offered_in buf used []).answer ≡ cut_answer pr.holder = cut_shown buf used bytes large good ∙ ap cut_answer same_holder in
       let h : (kept_in (offered_in buf used []).bytes (offered_in buf used []).used).holder ≡ (received pr.holder []).offered.holder =
       ap (λ (k : Kept). k.holder) (offer-kept buf used [] bytes tt good large) ∙ ap (λ (y : Holder). (received y []).offered.holder) same_holder in
       let e : reported (suc pr.most) t pr.holder pr.rest ≡ cut_lines t (offered_in buf used []) =
@@ -154,10 +154,10 @@ module _ (s : List ℕ) (before mid after : Option (List ℕ)) (lines : List ℕ
     behind = drop (4 + body_length pr.rest) pr.rest
 
     same_answer : (body_offered_in buf used (mark_at v p) (body_at v p)).answer ≡ x
-    same_answer = answer-shown buf used bytes large good (mark_at v p) (body_at v p) body_bytes ∙ ap (λ (h : Holder). (body_taken h (mark_at v p) (body_at v p)).answer) same_holder
+    same_answer = answer_shown buf used bytes large good (mark_at v p) (body_at v p) body_bytes ∙ ap (λ (h : Holder). (body_taken h (mark_at v p) (body_at v p)).answer) same_holder
 
     same_state : kept_in (body_offered_in buf used (mark_at v p) (body_at v p)).bytes (body_offered_in buf used (mark_at v p) (body_at v p)).used ≡ one moved
-    same_state = state-shown buf used bytes large good (mark_at v p) (body_at v p) body_bytes ∙ ap (λ (h : Holder). one (body_taken h (mark_at v p) (body_at v p)).holder) same_holder
+    same_state = state_shown buf used bytes large good (mark_at v p) (body_at v p) body_bytes ∙ ap (λ (h : Holder). one (body_taken h (mark_at v p) (body_at v p)).holder) same_holder
 
     shorter : length behind ≤ pr.most - 1
     shorter = let h = pr.enough in simp length-drop (omega (arith, four))
@@ -166,7 +166,7 @@ module _ (s : List ℕ) (before mid after : Option (List ℕ)) (lines : List ℕ
     goes =
         let one_more : pr.most ≡ suc (pr.most - 1) = (let h = pr.enough in omega (arith, four)) in
         let e : reported (suc pr.most) t pr.holder pr.rest ≡ line_of t (mark_at v p) x ++ reported pr.most (counted t x) moved behind =
-        step-shown w old v p st large_window pr.rest whole b.shown pr.most t pr.holder in
+        step_shown w old v p st large_window pr.rest whole b.shown pr.most t pr.holder in
         pr.total
         ∙ ap (λ (xs : List ℕ). pr.wrote ++ (lines ++ xs)) e
         ∙ ap (λ (n : ℕ). pr.wrote ++ (lines ++ (line_of t (mark_at v p) x ++ reported n (counted t x) moved behind))) one_more

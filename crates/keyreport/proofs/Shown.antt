@@ -1,8 +1,8 @@
 -- The program's step is the report's. Let s be the input from the record's first byte on, and let the window show its first bytes.
 -- Then the line that the program writes for the record in the window, the tally and the state after it are those of s's report.
 -- Runs says so of a whole run. Assumes nothing.
---     step-shown                   the record in the window, for a holder
---     answer-shown, state-shown    the call on the state's bytes, beside the holder's; cut-shown: where the input ends
+--     step_shown                   the record in the window, for a holder
+--     answer_shown, state_shown    the call on the state's bytes, beside the holder's; cut_shown: where the input ends
 use Rattle.std.proofs.Common.{◌≡◌, refl, sym, ap, ◌∙◌, List, [], ◌++◌, inl, inr, Bool, true, false, ℕ, suc, ◌+◌, ◌-◌, ◌≤◌, ◌<◌, add-zero, arith, leb, length, take, drop, get_or, length-drop, get_or-drop, get_or-take, drop-drop, le-leb, leb-false}
 use Rattle.state.specs.declared.Holder.{Holder}
 use Rattle.empty.specs.Empty.{nothing}
@@ -12,7 +12,7 @@ use Rattle.receive.specs.Received.{body_taken}
 use Rattle.report.specs.declared.Tally.{Tally}
 use Rattle.found.specs.Kept.{one, state_in, kept_in}
 use Rattle.in_place.specs.Calls.{body_offered_in, offered_in}
-use Rattle.in_place.proofs.Theorems.{body-answer, body_kept, offer-answer}
+use Rattle.in_place.proofs.Theorems.{body_answer, body_kept, offer-answer}
 use Rattle.report.specs.Report.{counted, line_of, cut_answer, reported}
 use Rattle.report.proofs.Stream.{Whole, Enough, record-step}
 use Rattle.stream.specs.declared.Span.{Span}
@@ -71,11 +71,11 @@ module _ (before : List ℕ) (old : Span) (w : List ℕ) (p : Place) (st : Stand
           let i : length w < size_of s = rw size at g in
           inr (omega (arith, f), omega (arith, f, i))
 
-  pub step-shown : (n : ℕ) (t : Tally) (h : Holder)
+  pub step_shown : (n : ℕ) (t : Tally) (h : Holder)
       → reported (suc n) t h s
       ≡ line_of t (mark_at w p) (body_taken h (mark_at w p) (body_at w p)).answer
       ++ reported n (counted t (body_taken h (mark_at w p) (body_at w p)).answer) (body_taken h (mark_at w p) (body_at w p)).holder (drop (4 + body_length s) s)
-  step-shown n t h = rw (mark, body) (record-step n t h s count whole enough)
+  step_shown n t h = rw (mark, body) (record-step n t h s count whole enough)
 
 -- The state stays bytes: `buf` with `used` of them, which hold h. What the call answers, and what the bytes hold after it, are
 -- those of the report's step. A byte is below 256, so both hypotheses about bytes hold of every buffer.
@@ -84,15 +84,15 @@ module _ (buf : List ℕ) (used : ℕ) (bytes : Bytes buf) (large : 2285 ≤ len
   held = (kept_in buf used).holder
 
   module _ (mark : ℕ) (body : List ℕ) (input : Bytes body) where
-    pub answer-shown : (body_offered_in buf used mark body).answer ≡ (body_taken held mark body).answer
-    answer-shown = body-answer buf used mark body bytes input good large
+    pub answer_shown : (body_offered_in buf used mark body).answer ≡ (body_taken held mark body).answer
+    answer_shown = body_answer buf used mark body bytes input good large
 
-    pub state-shown : kept_in (body_offered_in buf used mark body).bytes (body_offered_in buf used mark body).used ≡ one (body_taken held mark body).holder
-    state-shown = body_kept buf used mark body bytes input good large
+    pub state_shown : kept_in (body_offered_in buf used mark body).bytes (body_offered_in buf used mark body).used ≡ one (body_taken held mark body).holder
+    state_shown = body_kept buf used mark body bytes input good large
 
   -- bytes that are no record get what no bytes get
-  pub cut-shown : (offered_in buf used []).answer ≡ cut_answer held
-  cut-shown = offer-answer buf used [] bytes tt good large
+  pub cut_shown : (offered_in buf used []).answer ≡ cut_answer held
+  cut_shown = offer-answer buf used [] bytes tt good large
 
 -- the buffer that the program begins with holds nothing
 pub begins : (buf : List ℕ) → kept_in buf 0 ≡ one nothing

@@ -67,15 +67,15 @@ none_up_to f d x xs m t ih (suc j) h = ih j (omega (arith, h))
 pub first_at : {A : Type 0} (f : A → Bool) (d : A) (k : ℕ) (xs : List A) (n : ℕ) → first_from f k xs ≡ At n → FirstAt f d k xs n
 unfolding first_from
 first_at f d k [] n e = clash (sym (ap is_at e))
-first_at f d k (x ∷ xs) n e = by-test (λ g. first_at f d (k + 1) xs n g) (f x) refl e
+first_at f d k (x ∷ xs) n e = by_test (λ g. first_at f d (k + 1) xs n g) (f x) refl e
   where
-    by-test : (first_from f (k + 1) xs ≡ At n → FirstAt f d (k + 1) xs n) → (b : Bool) → f x ≡ b → pick b (At k) (first_from f (k + 1) xs) ≡ At n
+    by_test : (first_from f (k + 1) xs ≡ At n → FirstAt f d (k + 1) xs n) → (b : Bool) → f x ≡ b → pick b (At k) (first_from f (k + 1) xs) ≡ At n
         → FirstAt f d k (x ∷ xs) n
-    by-test later true t g =
+    by_test later true t g =
         let m : k ≡ n = ap place_of g in
         let z : n - k ≡ 0 = omega (arith, m) in
         (omega (arith, m), (omega (arith, m), (rw z t, λ j h. absurd (omega (arith, h, z)))))
-    by-test later false t g =
+    by_test later false t g =
         let ih : FirstAt f d (k + 1) xs n = later g in
         let l : k + 1 ≤ n = ih.0 in
         let r : n < k + 1 + length xs = ih.1.0 in

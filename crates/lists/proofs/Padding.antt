@@ -21,8 +21,8 @@ module _ {A : Type 0} (z : A) where
   padded-length n xs h = simp (length-append, length-replicate) (omega arith)
 
   -- an element stored at the first unused place
-  pub padded-push : (n : ℕ) (xs : List A) (x : A) → length xs < n → set (padded n z xs) (length xs) x ≡ padded n z (xs ++ (x ∷ []))
-  padded-push n xs x h =
+  pub padded_push : (n : ℕ) (xs : List A) (x : A) → length xs < n → set (padded n z xs) (length xs) x ≡ padded n z (xs ++ (x ∷ []))
+  padded_push n xs x h =
       let e : n - length xs ≡ suc (n - (length xs + 1)) = rw (← add-one) (omega arith) in
       let l : length (xs ++ (x ∷ [])) ≡ length xs + 1 = length-append xs (x ∷ []) in
       rw (e, l, append_assoc) (set-append_seam xs z (replicate (n - (length xs + 1)) z) x)
@@ -34,8 +34,8 @@ module _ {A : Type 0} (z : A) where
       rw f (take_at (replicate n z) (replicate (m - n) z) n (length-replicate n z))
 
   -- the first n places of a wider array, where the list fits them
-  pub padded-narrow : (n m : ℕ) (xs : List A) → length xs ≤ n → n ≤ m → take n (padded m z xs) ≡ padded n z xs
-  padded-narrow n m xs h g =
+  pub padded_narrow : (n m : ℕ) (xs : List A) → length xs ≤ n → n ≤ m → take n (padded m z xs) ≡ padded n z xs
+  padded_narrow n m xs h g =
       let e : length xs + (n - length xs) ≡ n = omega arith in
       let f = take-append-add xs (replicate (m - length xs) z) (n - length xs) in
       let r = take-replicate (n - length xs) (m - length xs) (omega arith) in
@@ -52,9 +52,9 @@ module _ {A : Type 0} (z : A) where
       ap (λ (y : A). y ∷ xs) h ∙ ap (λ (ys : List A). z ∷ ys) t
 
   -- an array whose places past n are zero is its used part, padded
-  pub is-padded : (f : A → Bool) → ((x : A) → f x ≡ true → x ≡ z) → (size n : ℕ) (places : List A) → length places ≡ size → n ≤ size
+  pub is_padded : (f : A → Bool) → ((x : A) → f x ≡ true → x ≡ z) → (size n : ℕ) (places : List A) → length places ≡ size → n ≤ size
       → all f (drop n places) ≡ true → places ≡ padded size z (take n places)
-  is-padded f only size n places h g e =
+  is_padded f only size n places h g e =
       let l : length (take n places) ≡ n = simp length-take (omega arith) in
       let d : length (drop n places) ≡ size - length (take n places) = simp (length-drop, length-take) (omega arith) in
       let r : drop n places ≡ replicate (size - length (take n places)) z = rw d at (zeros f only (drop n places) e) in

@@ -47,29 +47,29 @@ module _ {A : Type 0} (f : A → Bool) (xs : List A) (x : A) (i : ℕ) (e : drop
   unfolding any
   any_next h = rw (e, h)
 
-  pub all-stop : f x ≡ false → all f (drop i xs) ≡ false
+  pub all_stop : f x ≡ false → all f (drop i xs) ≡ false
   unfolding all
-  all-stop h = rw (e, h)
+  all_stop h = rw (e, h)
 
   pub all-next : f x ≡ true → all f (drop i xs) ≡ all f (drop (i + 1) xs)
   unfolding all
   all-next h = rw (e, h)
 
-  pub first-here : f x ≡ true → first_from f i (drop i xs) ≡ At i
+  pub first_here : f x ≡ true → first_from f i (drop i xs) ≡ At i
   unfolding first_from
-  first-here h = rw (e, h)
+  first_here h = rw (e, h)
 
   pub first_next : f x ≡ false → first_from f i (drop i xs) ≡ first_from f (i + 1) (drop (i + 1) xs)
   unfolding first_from
   first_next h = rw (e, h)
 
-  pub filter-in : f x ≡ true → filter f (drop i xs) ≡ x ∷ filter f (drop (i + 1) xs)
+  pub filter_in : f x ≡ true → filter f (drop i xs) ≡ x ∷ filter f (drop (i + 1) xs)
   unfolding filter
-  filter-in h = rw (e, h)
+  filter_in h = rw (e, h)
 
-  pub filter-out : f x ≡ false → filter f (drop i xs) ≡ filter f (drop (i + 1) xs)
+  pub filter_out : f x ≡ false → filter f (drop i xs) ≡ filter f (drop (i + 1) xs)
   unfolding filter
-  filter-out h = rw (e, h)
+  filter_out h = rw (e, h)
 
 module _ {A : Type 0} (f : A → Bool) (xs : List A) (i : ℕ) (h : length xs ≤ i) where
   pub any-end : any f (drop i xs) ≡ false

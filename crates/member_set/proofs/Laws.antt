@@ -15,9 +15,9 @@ use borrow.Author.Tests.{ltb-true, ltb-false, le-leb, lt-leb}
 use Rattle.lists.specs.Lists.{pick, either, any, filter, first_from, is_at}
 use Rattle.lists.specs.declared.Found.{Found}
 use Rattle.lists.specs.declared.Found.TheVariants.{At, Nothing}
-use Rattle.lists.proofs.Walks.{head_at, used-end, first-here, first_next, first-end, filter-in, filter-out, filter-end}
+use Rattle.lists.proofs.Walks.{head_at, used-end, first_here, first_next, first-end, filter_in, filter_out, filter-end}
 use Rattle.lists.proofs.Facts.{first_any, any_append}
-use Rattle.lists.proofs.Padding.{padded-push}
+use Rattle.lists.proofs.Padding.{padded_push}
 use Rattle.item.specs.declared.Item.{Item}
 use Rattle.item.specs.Item.{same_item, zero_item}
 use Rattle.item.proofs.Laws.{same_item_lem}
@@ -47,36 +47,36 @@ last_at d places n i hn hi =
 module _ {A : Type 0} (f : A → Bool) (d : A) (places xs : List A) (n i : ℕ) (e : take n places ≡ xs)
     (so : first_from f 0 (take n places) ≡ first_from f i (drop i (take n places))) where
   pub found_here : i < n → i < length places → f (get_or places i d) ≡ true → At i ≡ first_from f 0 xs
-  found_here hn hi t = sym (so ∙ first-here f (take n places) (get_or places i d) i (head_at d places n i hn hi) t) ∙ ap (first_from f 0) e
+  found_here hn hi t = sym (so ∙ first_here f (take n places) (get_or places i d) i (head_at d places n i hn hi) t) ∙ ap (first_from f 0) e
 
-  pub found-next : i < n → i < length places → f (get_or places i d) ≡ false
+  pub found_next : i < n → i < length places → f (get_or places i d) ≡ false
       → first_from f 0 (take n places) ≡ first_from f (i + 1) (drop (i + 1) (take n places))
-  found-next hn hi t = so ∙ first_next f (take n places) (get_or places i d) i (head_at d places n i hn hi) t
+  found_next hn hi t = so ∙ first_next f (take n places) (get_or places i d) i (head_at d places n i hn hi) t
 
   pub found_none : n ≤ i → Nothing ≡ first_from f 0 xs
   found_none h = sym (so ∙ first-end f (take n places) i (used-end places n i h)) ∙ ap (first_from f 0) e
 
 module _ (places xs : List Item) (n i : ℕ) (e : take n places ≡ xs)
     (so : repeat_from [] 0 (take n places) ≡ repeat_from (take i (take n places)) i (drop i (take n places))) where
-  pub repeat-here : i < n → i < length places → member (take i places) (get_or places i no_item) ≡ true → At i ≡ repeat_from [] 0 xs
+  pub repeat_here : i < n → i < length places → member (take i places) (get_or places i no_item) ≡ true → At i ≡ repeat_from [] 0 xs
   unfolding repeat_from
-  repeat-here hn hi t =
+  repeat_here hn hi t =
       let h : i ≤ n = omega arith in
       let s = rw (head_at no_item places n i hn hi, take-take i n places h, t) at so in
       sym s ∙ ap (repeat_from [] 0) e
 
-  pub repeat-next : i < n → i < length places → member (take i places) (get_or places i no_item) ≡ false
+  pub repeat_next : i < n → i < length places → member (take i places) (get_or places i no_item) ≡ false
       → repeat_from [] 0 (take n places) ≡ repeat_from (take (i + 1) (take n places)) (i + 1) (drop (i + 1) (take n places))
   unfolding repeat_from
-  repeat-next hn hi t =
+  repeat_next hn hi t =
       let h : i ≤ n = omega arith in
       let g : member (take i (take n places)) (get_or places i no_item) ≡ false = rw (take-take i n places h) t in
       let s = rw (head_at no_item places n i hn hi, g) at so in
       rw (last_at no_item places n i hn hi) s
 
-  pub repeat-none : n ≤ i → Nothing ≡ repeat_from [] 0 xs
+  pub repeat_none : n ≤ i → Nothing ≡ repeat_from [] 0 xs
   unfolding repeat_from
-  repeat-none h =
+  repeat_none h =
       let s = rw (drop_of_length-le (take n places) (used-end places n i h)) at so in
       sym s ∙ ap (repeat_from [] 0) e
 
@@ -102,7 +102,7 @@ push_by : (ks : List Item) (x : Item) (t : Bool) → ltb (length ks) 16 ≡ t
 push_by ks x true e =
     let h : length ks < 16 = ltb-true (length ks) 16 e in
     let l : length (ks ++ (x ∷ [])) ≤ 16 = rw length-append (omega arith) in
-    rw (take_all 16 ks (omega arith), take_all 16 (ks ++ (x ∷ [])) l) (padded-push zero_item 16 ks x h)
+    rw (take_all 16 ks (omega arith), take_all 16 (ks ++ (x ∷ [])) l) (padded_push zero_item 16 ks x h)
 push_by ks x false e =
     let h : 16 ≤ length ks = ltb-false (length ks) 16 e in
     rw (take-append-le 16 ks (x ∷ []) h)
@@ -134,7 +134,7 @@ module _ (cuts xs : List Item) (l : Items) (i : ℕ) where
         ks = r.ks;
         is = r.is;
         few = omega (arith, r.few);
-        rest = r.rest ∙ ap (λ (ys : List Item). r.ks ++ ys) (filter-out (absent cuts) xs x i e (rw t));
+        rest = r.rest ∙ ap (λ (ys : List Item). r.ks ++ ys) (filter_out (absent cuts) xs x i e (rw t));
       }
   kept_by x false e t r =
       record {
@@ -143,7 +143,7 @@ module _ (cuts xs : List Item) (l : Items) (i : ℕ) where
         few = rw length-append (omega (arith, r.few));
         rest =
             r.rest
-            ∙ ap (λ (ys : List Item). r.ks ++ ys) (filter-in (absent cuts) xs x i e (rw t))
+            ∙ ap (λ (ys : List Item). r.ks ++ ys) (filter_in (absent cuts) xs x i e (rw t))
             ∙ sym (append_assoc r.ks (x ∷ []) (filter (absent cuts) (drop (i + 1) xs)));
       }
 
@@ -243,10 +243,10 @@ unfolding updated
 update_is current cuts adds first l e f = (rw (e, listed-packed (filter (absent cuts) current)) at f)
 
 module _ (xs : List Item) (l : Items) (e : l ≡ grown xs) where
-  pub update-many : (a : Answer) (none : Items) → a ≡ refused 38 l.count 0 → none ≡ packed [] → 16 < l.count
+  pub update_many : (a : Answer) (none : Items) → a ≡ refused 38 l.count 0 → none ≡ packed [] → 16 < l.count
       → ◌≡◌ {A = Change} (record { answer = a; list = none }) (change_of xs)
   unfolding change_of
-  update-many a none ea en h =
+  update_many a none ea en h =
       let g : 16 < length xs = rw e at h in
       rw (ea, en, e) (rw (lt-leb (length xs) 16 g))
 

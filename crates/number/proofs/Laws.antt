@@ -52,18 +52,18 @@ same_number_lem a b e =
 
 -- two tests that hold together are one
 ltb-same : (a b c d : ℕ) → (a < b → c < d) → (b ≤ a → d ≤ c) → ltb a b ≡ ltb c d
-ltb-same a b c d f g = by-test (ltb a b) refl
+ltb-same a b c d f g = by_test (ltb a b) refl
   where
-    by-test : (t : Bool) → ltb a b ≡ t → ltb a b ≡ ltb c d
-    by-test true e = e ∙ sym (lt-ltb c d (f (ltb-true a b e)))
-    by-test false e = e ∙ sym (le-ltb c d (g (ltb-false a b e)))
+    by_test : (t : Bool) → ltb a b ≡ t → ltb a b ≡ ltb c d
+    by_test true e = e ∙ sym (lt-ltb c d (f (ltb-true a b e)))
+    by_test false e = e ∙ sym (le-ltb c d (g (ltb-false a b e)))
 
 module _ (a b : Number) where
-  pub below-low : a.high ≡ b.high → ltb a.low b.low ≡ ltb (value a) (value b)
-  below-low e = ltb-same a.low b.low (value a) (value b) (λ h. omega (arith, e, h)) (λ h. omega (arith, e, h))
+  pub below_low : a.high ≡ b.high → ltb a.low b.low ≡ ltb (value a) (value b)
+  below_low e = ltb-same a.low b.low (value a) (value b) (λ h. omega (arith, e, h)) (λ h. omega (arith, e, h))
 
-  pub below-high : (a.high ≡ b.high → ⊥) → a.low < 2 ^ 64 → b.low < 2 ^ 64 → ltb a.high b.high ≡ ltb (value a) (value b)
-  below-high ne p q = ltb-same a.high b.high (value a) (value b) (λ h. omega (arith, h)) (λ h. omega (arith, h, ne))
+  pub below_high : (a.high ≡ b.high → ⊥) → a.low < 2 ^ 64 → b.low < 2 ^ 64 → ltb a.high b.high ≡ ltb (value a) (value b)
+  below_high ne p q = ltb-same a.high b.high (value a) (value b) (λ h. omega (arith, h)) (λ h. omega (arith, h, ne))
 
 -- the words of a number stand for it, so the number after is one more
 value-words : (v : ℕ) → value (words v) ≡ v
@@ -71,8 +71,8 @@ value-words v = div-add-mod' v (2 ^ 64)
 
 pub next-value : (n m : Number) → next_of n ≡ Of m → value m ≡ value n + 1
 unfolding next_of
-next-value n m e = by-test (ltb (value n + 1) (2 ^ 128)) e
+next-value n m e = by_test (ltb (value n + 1) (2 ^ 128)) e
   where
-    by-test : (t : Bool) → pick t (Of (words (value n + 1))) Last ≡ Of m → value m ≡ value n + 1
-    by-test true p = let q : words (value n + 1) ≡ m = cc in ap value (sym q) ∙ value-words (value n + 1)
-    by-test false p = let z : ◌≡◌ {A = ℕ} 0 1 = cc in absurd (omega arith)
+    by_test : (t : Bool) → pick t (Of (words (value n + 1))) Last ≡ Of m → value m ≡ value n + 1
+    by_test true p = let q : words (value n + 1) ≡ m = cc in ap value (sym q) ∙ value-words (value n + 1)
+    by_test false p = let z : ◌≡◌ {A = ℕ} 0 1 = cc in absurd (omega arith)

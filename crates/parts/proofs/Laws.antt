@@ -21,11 +21,11 @@ use Rattle.format.specs.Parse.{num_at}
 use Rattle.format.specs.Fields.{sn_at}
 use Rattle.layout.specs.Records.{first_head_at, later_head_at, authority_at, commitment_at, inception_body_at, rotation_body_at, no_body}
 use Rattle.cursor.specs.Spans.{mapped}
-use Rattle.cursor.proofs.Laws.{as_is, at_place, flat, many-none}
+use Rattle.cursor.proofs.Laws.{as_is, at_place, flat, many_none}
 use Rattle.field.specs.Field.{place_at, items_place_at, config_place_at, byte_of, item_of, items_of, config_of}
-use Rattle.field.proofs.Laws.{item-none, item-value, items-value, config_value}
+use Rattle.field.proofs.Laws.{item_none, item_value, items_value, config_value}
 use Rattle.threshold_field.specs.ThresholdField.{marks_at, threshold_of, simple_marks, weight_of}
-use Rattle.threshold_field.proofs.Laws.{threshold-values}
+use Rattle.threshold_field.proofs.Laws.{threshold_values}
 use Rattle.parts.specs.declared.HeadMarks.{HeadMarks}
 use Rattle.parts.specs.declared.QuorumMarks.{QuorumMarks}
 use Rattle.parts.specs.declared.BodyMarks.{BodyMarks}
@@ -41,83 +41,83 @@ config_as s m = config_of s m.0 m.1
 -- ---- Nothing, nowhere
 no_items : (s : List ℕ) → items_of s 0 0 ≡ packed []
 unfolding items_of
-no_items s = rw (many-none (item_of s) 33 16 s)
+no_items s = rw (many_none (item_of s) 33 16 s)
 
 no_traits : (s : List ℕ) → config_of s 0 0 ≡ packed_traits []
 unfolding config_of
-no_traits s = rw (many-none (byte_of s) 1 8 s)
+no_traits s = rw (many_none (byte_of s) 1 8 s)
 
 no-threshold : (s : List ℕ) → threshold_of s (simple_marks 0) ≡ no_threshold
-no-threshold s = rw (many-none (byte_of s) 1 16 s, many-none (weight_of s) 16 16 s)
+no-threshold s = rw (many_none (byte_of s) 1 16 s, many_none (weight_of s) 16 16 s)
 
 pub no_body_lem : (s : List ℕ) → body_of s no_body_marks ≡ no_body
 no_body_lem s = rw (no_items s, no_traits s, no-threshold s)
 
 -- ---- Groups of fields
 module _ (s : List ℕ) (at : ℕ) where
-  pub first-head-value : mapped (head_of s) (first_head_places s at) ≡ first_head_at s at
+  pub first_head_value : mapped (head_of s) (first_head_places s at) ≡ first_head_at s at
   unfolding first_head_places first_head_at
-  first-head-value =
-      at_place (head_of s) (item_of s) (place_at Prefix s at) _ _ _ (item-value Prefix s at) λ prefix p.
+  first_head_value =
+      at_place (head_of s) (item_of s) (place_at Prefix s at) _ _ _ (item_value Prefix s at) λ prefix p.
       as_is (head_of s) (sn_at s p) _ _ λ sn q.
-      at_place (head_of s) (item_of s) (place_at Said s q) _ _ _ (item-value Said s q) λ said n.
-      rw (← item-none s (length s) (le_refl (length s)))
+      at_place (head_of s) (item_of s) (place_at Said s q) _ _ _ (item_value Said s q) λ said n.
+      rw (← item_none s (length s) (le_refl (length s)))
 
-  pub authority-value : mapped (authority_of s) (quorum_places Key s at) ≡ authority_at s at
+  pub authority_value : mapped (authority_of s) (quorum_places Key s at) ≡ authority_at s at
   unfolding quorum_places authority_at
-  authority-value =
-      at_place (authority_of s) (items_as s) (items_place_at Key s at) _ _ _ (items-value Key s at) λ m p.
-      at_place (authority_of s) (threshold_of s) (marks_at s p) _ _ _ (threshold-values s p) λ t n. refl
+  authority_value =
+      at_place (authority_of s) (items_as s) (items_place_at Key s at) _ _ _ (items_value Key s at) λ m p.
+      at_place (authority_of s) (threshold_of s) (marks_at s p) _ _ _ (threshold_values s p) λ t n. refl
 
-  pub commitment-value : mapped (commitment_of s) (quorum_places Said s at) ≡ commitment_at s at
+  pub commitment_value : mapped (commitment_of s) (quorum_places Said s at) ≡ commitment_at s at
   unfolding quorum_places commitment_at
-  commitment-value =
-      at_place (commitment_of s) (items_as s) (items_place_at Said s at) _ _ _ (items-value Said s at) λ m p.
-      at_place (commitment_of s) (threshold_of s) (marks_at s p) _ _ _ (threshold-values s p) λ t n. refl
+  commitment_value =
+      at_place (commitment_of s) (items_as s) (items_place_at Said s at) _ _ _ (items_value Said s at) λ m p.
+      at_place (commitment_of s) (threshold_of s) (marks_at s p) _ _ _ (threshold_values s p) λ t n. refl
 
 pub later_head_value : (s : List ℕ) (at : ℕ) → mapped (head_of s) (later_head_places s at) ≡ later_head_at s at
 unfolding later_head_places later_head_at
 later_head_value s at =
-    at_place (head_of s) (head_of s) (first_head_places s at) _ _ _ (first-head-value s at) λ h p.
-    at_place (head_of s) (item_of s) (place_at Said s p) _ _ _ (item-value Said s p) λ prior n. refl
+    at_place (head_of s) (head_of s) (first_head_places s at) _ _ _ (first_head_value s at) λ h p.
+    at_place (head_of s) (item_of s) (place_at Said s p) _ _ _ (item_value Said s p) λ prior n. refl
 
 -- the signers first, then the rest of a body
 module _ (s : List ℕ) (at : ℕ) where
-  pub inception-body-value : mapped (body_of s) (inception_body_places s at) ≡ inception_body_at s at
+  pub inception_body_value : mapped (body_of s) (inception_body_places s at) ≡ inception_body_at s at
   unfolding inception_body_places inception_body_at signers_places
-  inception-body-value =
+  inception_body_value =
       flat (body_of s) (quorum_places Key s at) _ _
-      (at_place (body_of s) (authority_of s) (quorum_places Key s at) _ _ _ (authority-value s at) λ a p.
+      (at_place (body_of s) (authority_of s) (quorum_places Key s at) _ _ _ (authority_value s at) λ a p.
       flat (body_of s) (quorum_places Said s p) _ _
-      (at_place (body_of s) (commitment_of s) (quorum_places Said s p) _ _ _ (commitment-value s p) λ c q.
-      at_place (body_of s) (items_as s) (items_place_at Key s q) _ _ _ (items-value Key s q) λ w t.
+      (at_place (body_of s) (commitment_of s) (quorum_places Said s p) _ _ _ (commitment_value s p) λ c q.
+      at_place (body_of s) (items_as s) (items_place_at Key s q) _ _ _ (items_value Key s q) λ w t.
       as_is (body_of s) (num_at 4 s t) _ _ λ toad u.
       at_place (body_of s) (config_as s) (config_place_at s u) _ _ _ (config_value s u) λ f n. rw (no_items s)))
 
-  pub rotation-body-value : mapped (body_of s) (rotation_body_places s at) ≡ rotation_body_at s at
+  pub rotation_body_value : mapped (body_of s) (rotation_body_places s at) ≡ rotation_body_at s at
   unfolding rotation_body_places rotation_body_at signers_places
-  rotation-body-value =
+  rotation_body_value =
       flat (body_of s) (quorum_places Key s at) _ _
-      (at_place (body_of s) (authority_of s) (quorum_places Key s at) _ _ _ (authority-value s at) λ a p.
+      (at_place (body_of s) (authority_of s) (quorum_places Key s at) _ _ _ (authority_value s at) λ a p.
       flat (body_of s) (quorum_places Said s p) _ _
-      (at_place (body_of s) (commitment_of s) (quorum_places Said s p) _ _ _ (commitment-value s p) λ c q.
-      at_place (body_of s) (items_as s) (items_place_at Key s q) _ _ _ (items-value Key s q) λ x t.
-      at_place (body_of s) (items_as s) (items_place_at Key s t) _ _ _ (items-value Key s t) λ y u.
+      (at_place (body_of s) (commitment_of s) (quorum_places Said s p) _ _ _ (commitment_value s p) λ c q.
+      at_place (body_of s) (items_as s) (items_place_at Key s q) _ _ _ (items_value Key s q) λ x t.
+      at_place (body_of s) (items_as s) (items_place_at Key s t) _ _ _ (items_value Key s t) λ y u.
       as_is (body_of s) (num_at 4 s u) _ _ λ toad n. rw (no_traits s)))
 
 -- ---- What a copy holds
 module _ (s : List ℕ) where
-  pub head-is : (m : HeadMarks) {p d r : Item} → p ≡ item_of s m.prefix → d ≡ item_of s m.said → r ≡ item_of s m.prior
+  pub head_is_lem : (m : HeadMarks) {p d r : Item} → p ≡ item_of s m.prefix → d ≡ item_of s m.said → r ≡ item_of s m.prior
       → ◌≡◌ {A = Head} (record { prefix = p; sn = m.sn; said = d; prior = r }) (head_of s m)
-  head-is m a b c = rw (a, b, c)
+  head_is_lem m a b c = rw (a, b, c)
 
-  pub authority-is : (m : QuorumMarks) {k : Items} {t : Threshold} → k ≡ items_of s m.items.count m.items.first → t ≡ threshold_of s m.threshold
+  pub authority_is : (m : QuorumMarks) {k : Items} {t : Threshold} → k ≡ items_of s m.items.count m.items.first → t ≡ threshold_of s m.threshold
       → ◌≡◌ {A = Authority} (record { keys = k; threshold = t }) (authority_of s m)
-  authority-is m a b = rw (a, b)
+  authority_is m a b = rw (a, b)
 
-  pub commitment-is : (m : QuorumMarks) {k : Items} {t : Threshold} → k ≡ items_of s m.items.count m.items.first → t ≡ threshold_of s m.threshold
+  pub commitment_is : (m : QuorumMarks) {k : Items} {t : Threshold} → k ≡ items_of s m.items.count m.items.first → t ≡ threshold_of s m.threshold
       → ◌≡◌ {A = Commitment} (record { next = k; threshold = t }) (commitment_of s m)
-  commitment-is m a b = rw (a, b)
+  commitment_is m a b = rw (a, b)
 
   pub body_is_lem : (m : BodyMarks) {a : Authority} {c : Commitment} {x y : Items} {f : Config}
       → a ≡ authority_of s m.signers.authority → c ≡ commitment_of s m.signers.commitment

@@ -125,11 +125,11 @@ or_set (suc n) f p h = ⊎_elim last (λ l. below l (or_set n f p l)) (eq-or-lt_
         ap (bit_or (set_of (suc n) f)) place ∙ or_block n (bit (f n)) 0 (set_of n f) (2 ^ p) (set-lt n f) (pow-lt l) ∙ rw (top, ih)
 
 pub with-set : (f : ℕ → Bool) (p : ℕ) → with_place (set_of 16 f) p ≡ set_of 16 (with p f)
-with-set f p = by-test (ltb p 16) refl
+with-set f p = by_test (ltb p 16) refl
   where
-    by-test : (b : Bool) → ltb p 16 ≡ b → with_place (set_of 16 f) p ≡ set_of 16 (with p f)
-    by-test true e = rw e (or_set 16 f p (ltb-true p 16 e))
-    by-test false e = rw e (set_same 16 f (with p f) (λ k l. with_other f p k (λ d. let h = ltb-false p 16 e in omega (arith, d))))
+    by_test : (b : Bool) → ltb p 16 ≡ b → with_place (set_of 16 f) p ≡ set_of 16 (with p f)
+    by_test true e = rw e (or_set 16 f p (ltb-true p 16 e))
+    by_test false e = rw e (set_same 16 f (with p f) (λ k l. with_other f p k (λ d. let h = ltb-false p 16 e in omega (arith, d))))
 
 -- ---- the places below a bound
 abbrev pub below : ℕ → (ℕ → Bool) → ℕ → Bool
@@ -139,20 +139,20 @@ mod-set : (m n : ℕ) (f : ℕ → Bool) → n ≤ m → set_of m f % 2 ^ n ≡ 
 mod-set m n f h =
     let cut : set_of m f % 2 ^ n < 2 ^ n = mod-lt (set_of m f) (pow_pos n) in
     let fits : set_of m f % 2 ^ n < 2 ^ m = omega (arith, cut, pow_mono h) in
-    sym (set_bits m (set_of m f % 2 ^ n) fits) ∙ set_same m (bit_at (set_of m f % 2 ^ n)) (below n f) (λ k l. by-test k l cut (ltb k n) refl)
+    sym (set_bits m (set_of m f % 2 ^ n) fits) ∙ set_same m (bit_at (set_of m f % 2 ^ n)) (below n f) (λ k l. by_test k l cut (ltb k n) refl)
   where
-    by-test : (k : ℕ) → k < m → set_of m f % 2 ^ n < 2 ^ n → (b : Bool) → ltb k n ≡ b → bit_at (set_of m f % 2 ^ n) k ≡ below n f k
-    by-test k l cut true e = rw e (sym (bit_mod n (set_of m f) k (ltb-true k n e)) ∙ bit_set m f k l)
-    by-test k l cut false e =
+    by_test : (k : ℕ) → k < m → set_of m f % 2 ^ n < 2 ^ n → (b : Bool) → ltb k n ≡ b → bit_at (set_of m f % 2 ^ n) k ≡ below n f k
+    by_test k l cut true e = rw e (sym (bit_mod n (set_of m f) k (ltb-true k n e)) ∙ bit_set m f k l)
+    by_test k l cut false e =
         let none : set_of m f % 2 ^ n < 2 ^ k = omega (arith, cut, pow_mono (ltb-false k n e)) in
         rw (e, div-eq_of_lt none)
 
 pub cut-set : (n : ℕ) (f : ℕ → Bool) → cut_to n (set_of 16 f) ≡ set_of 16 (below n f)
-cut-set n f = by-test (ltb n 16) refl
+cut-set n f = by_test (ltb n 16) refl
   where
-    by-test : (b : Bool) → ltb n 16 ≡ b → cut_to n (set_of 16 f) ≡ set_of 16 (below n f)
-    by-test true e = rw e (mod-set 16 n f (let h = ltb-true n 16 e in omega arith))
-    by-test false e = rw e (set_same 16 f (below n f) (λ k l. let h = ltb-false n 16 e in rw (lt-ltb k n (omega arith))))
+    by_test : (b : Bool) → ltb n 16 ≡ b → cut_to n (set_of 16 f) ≡ set_of 16 (below n f)
+    by_test true e = rw e (mod-set 16 n f (let h = ltb-true n 16 e in omega arith))
+    by_test false e = rw e (set_same 16 f (below n f) (λ k l. let h = ltb-false n 16 e in rw (lt-ltb k n (omega arith))))
 
 -- ---- the rising list of a property
 pub chosen-same : (n : ℕ) (f g : ℕ → Bool) → ((k : ℕ) → k < n → f k ≡ g k) → chosen n f ≡ chosen n g
@@ -196,29 +196,29 @@ pub ones-places : (s : ℕ) → s < 2 ^ 16 → ones s ≡ length (places_in s)
 ones-places s h = rw (set_bits 16 s h) at (ones-set 16 (bit_at s))
 
 eqb_sym : (a b : ℕ) → eqb a b ≡ eqb b a
-eqb_sym a b = by-test (eqb b a) refl
+eqb_sym a b = by_test (eqb b a) refl
   where
-    by-test : (t : Bool) → eqb b a ≡ t → eqb a b ≡ t
-    by-test true e = eq-eqb a b (sym (eqb-true b a e))
-    by-test false e = ne_eqb a b (λ d. eqb-false b a e (sym d))
+    by_test : (t : Bool) → eqb b a ≡ t → eqb a b ≡ t
+    by_test true e = eq-eqb a b (sym (eqb-true b a e))
+    by_test false e = ne_eqb a b (λ d. eqb-false b a e (sym d))
 
 -- what is in it
 pub among-chosen : (n : ℕ) (f : ℕ → Bool) (k : ℕ) → among (chosen n f) k ≡ below n f k
 unfolding chosen any
 among-chosen zero f k = rw (le-ltb k 0 (omega arith))
 among-chosen (suc n) f k =
-    any_append (eqb k) (chosen n f) (pick (f n) (n ∷ []) []) ∙ ap₂ either (among-chosen n f k) (last (f n)) ∙ by-test (eqb k n) (ltb k n) refl refl
+    any_append (eqb k) (chosen n f) (pick (f n) (n ∷ []) []) ∙ ap₂ either (among-chosen n f k) (last (f n)) ∙ by_test (eqb k n) (ltb k n) refl refl
   where
     last : (b : Bool) → any (eqb k) (pick b (n ∷ []) []) ≡ both b (eqb k n)
     last true = either_false (eqb k n)
     last false = refl
 
-    by-test : (a b : Bool) → eqb k n ≡ a → ltb k n ≡ b → either (below n f k) (both (f n) (eqb k n)) ≡ below (suc n) f k
-    by-test true b g e =
+    by_test : (a b : Bool) → eqb k n ≡ a → ltb k n ≡ b → either (below n f k) (both (f n) (eqb k n)) ≡ below (suc n) f k
+    by_test true b g e =
         let h = eqb-true k n g in
         rw (g, le-ltb k n (omega arith), lt-ltb k (suc n) (omega arith)) (both_on (f n) ∙ ap f (sym h))
-    by-test false true g e = let h = ltb-true k n e in rw (e, g, lt-ltb k (suc n) (omega arith), both_off (f n)) (either_false (f k))
-    by-test false false g e =
+    by_test false true g e = let h = ltb-true k n e in rw (e, g, lt-ltb k (suc n) (omega arith), both_off (f n)) (either_false (f k))
+    by_test false false g e =
         let h = ltb-false k n e in
         let d = eqb-false k n g in
         rw (e, g, le-ltb k (suc n) (omega arith)) (both_off (f n))

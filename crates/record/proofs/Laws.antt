@@ -27,13 +27,13 @@ use Rattle.layout.specs.Records.{tail_at, inception_at, rotation_at, interaction
 use Rattle.cursor.specs.Spans.{mapped}
 use Rattle.cursor.proofs.Laws.{as_is, at_place, flat}
 use Rattle.field.specs.Field.{place_at, items_place_at, config_place_at, item_of}
-use Rattle.field.proofs.Laws.{item-value, items-value, config_value}
+use Rattle.field.proofs.Laws.{item_value, items_value, config_value}
 use Rattle.wire.specs.Wire.{sigers_span, sigers_of}
-use Rattle.wire.proofs.Laws.{sigers-values}
+use Rattle.wire.proofs.Laws.{sigers_values}
 use Rattle.parts.specs.declared.HeadMarks.{HeadMarks}
 use Rattle.parts.specs.declared.BodyMarks.{BodyMarks}
 use Rattle.parts.specs.Parts.{first_head_places, later_head_places, quorum_places, signers_places, inception_body_places, rotation_body_places, no_body_marks, head_of, authority_of, commitment_of, body_of}
-use Rattle.parts.proofs.Laws.{items_as, config_as, no_body_lem, first-head-value, later_head_value, authority-value, commitment-value, inception-body-value, rotation-body-value}
+use Rattle.parts.proofs.Laws.{items_as, config_as, no_body_lem, first_head_value, later_head_value, authority_value, commitment_value, inception_body_value, rotation_body_value}
 use Rattle.record.specs.declared.TailMarks.{TailMarks}
 use Rattle.record.specs.declared.EventMarks.{EventMarks}
 use Rattle.record.specs.declared.StateMarks.{StateMarks}
@@ -65,8 +65,8 @@ unfolding tail_places tail_at ended
 tail_value ilk s h b at =
     let g : TailMarks → Event = λ t. event_of ilk s (record { head = h; body = b; tail = t }) in
     as_is g (num_at 4 s at) _ _ λ anchors p.
-    at_place g (sigers_as s) (sigers_span s p) _ _ _ (sigers-values s p) λ x q.
-    at_place g (sigers_as s) (sigers_span s q) _ _ _ (sigers-values s q) λ y n.
+    at_place g (sigers_as s) (sigers_span s p) _ _ _ (sigers_values s p) λ x q.
+    at_place g (sigers_as s) (sigers_span s q) _ _ _ (sigers_values s q) λ y n.
     over g (eqb n (length s)) _ n
 
 -- ---- Whole records
@@ -79,8 +79,8 @@ module _ (s : List ℕ) (at : ℕ) where
   unfolding inception_places inception_at
   inception-value =
       let g : EventMarks → Event = event_of Inception s in
-      at_place g (head_of s) (first_head_places s at) _ _ _ (first-head-value s at) λ h p.
-      at_place g (body_of s) (inception_body_places s p) _ _ _ (inception-body-value s p) λ b q.
+      at_place g (head_of s) (first_head_places s at) _ _ _ (first_head_value s at) λ h p.
+      at_place g (body_of s) (inception_body_places s p) _ _ _ (inception_body_value s p) λ b q.
       closing g (λ t. record { head = h; body = b; tail = t }) (tail_places s q) ∙ tail_value Inception s h b q
 
   pub rotation-value : mapped (event_of Rotation s) (rotation_places s at) ≡ rotation_at s at
@@ -88,7 +88,7 @@ module _ (s : List ℕ) (at : ℕ) where
   rotation-value =
       let g : EventMarks → Event = event_of Rotation s in
       at_place g (head_of s) (later_head_places s at) _ _ _ (later_head_value s at) λ h p.
-      at_place g (body_of s) (rotation_body_places s p) _ _ _ (rotation-body-value s p) λ b q.
+      at_place g (body_of s) (rotation_body_places s p) _ _ _ (rotation_body_value s p) λ b q.
       closing g (λ t. record { head = h; body = b; tail = t }) (tail_places s q) ∙ tail_value Rotation s h b q
 
   pub interaction-value : mapped (event_of Interaction s) (interaction_places s at) ≡ interaction_at s at
@@ -100,19 +100,19 @@ module _ (s : List ℕ) (at : ℕ) where
       ∙ tail_value Interaction s h no_body_marks p
       ∙ ap (λ (b : Body). tail_at Interaction (head_of s h) b s p) (no_body_lem s)
 
-  pub snapshot-value : mapped (state_of s) (snapshot_places s at) ≡ snapshot_at s at
+  pub snapshot_value : mapped (state_of s) (snapshot_places s at) ≡ snapshot_at s at
   unfolding snapshot_places snapshot_at inception_body_places signers_places last_places ended
-  snapshot-value =
+  snapshot_value =
       let g : StateMarks → KeyState = state_of s in
-      at_place g (head_of s) (first_head_places s at) _ _ _ (first-head-value s at) λ h p.
+      at_place g (head_of s) (first_head_places s at) _ _ _ (first_head_value s at) λ h p.
       as_is g (latest_at s p) _ _ λ latest q.
       flat g (signers_places s q) _ _
       (flat g (quorum_places Key s q) _ _
-      (at_place g (authority_of s) (quorum_places Key s q) _ _ _ (authority-value s q) λ a r.
+      (at_place g (authority_of s) (quorum_places Key s q) _ _ _ (authority_value s q) λ a r.
       flat g (quorum_places Said s r) _ _
-      (at_place g (commitment_of s) (quorum_places Said s r) _ _ _ (commitment-value s r) λ c t.
+      (at_place g (commitment_of s) (quorum_places Said s r) _ _ _ (commitment_value s r) λ c t.
       flat g (items_place_at Key s t) _ _
-      (at_place g (items_as s) (items_place_at Key s t) _ _ _ (items-value Key s t) λ w u.
+      (at_place g (items_as s) (items_place_at Key s t) _ _ _ (items_value Key s t) λ w u.
       flat g (num_at 4 s u) _ _
       (as_is g (num_at 4 s u) _ _ λ toad v.
       flat g (config_place_at s v) _ _
@@ -122,12 +122,12 @@ module _ (s : List ℕ) (at : ℕ) where
       flat g (sn_at s y) _ _
       (as_is g (sn_at s y) _ _ λ sn z.
       flat g (place_at Said s z) _ _
-      (at_place g (item_of s) (place_at Said s z) _ _ _ (item-value Said s z) λ said n.
+      (at_place g (item_of s) (place_at Said s z) _ _ _ (item_value Said s z) λ said n.
       over_closing g _ (eqb n (length s)) _ n)))))))))
 
 -- ---- What a copy holds
 module _ (s : List ℕ) where
-  pub state-is : (m : StateMarks) {h : Head} {b : Body} {i : Item} → h ≡ head_of s m.head → b ≡ body_of s m.body → i ≡ item_of s m.last.said
+  pub state_is_lem : (m : StateMarks) {h : Head} {b : Body} {i : Item} → h ≡ head_of s m.head → b ≡ body_of s m.body → i ≡ item_of s m.last.said
       → ◌≡◌ {A = KeyState}
       (record {
         prefix = h.prefix;
@@ -142,7 +142,7 @@ module _ (s : List ℕ) where
         last = record { sn = m.last.sn; said = i };
       })
       (state_of s m)
-  state-is m p q r = rw (p, q, r)
+  state_is_lem m p q r = rw (p, q, r)
 
 -- ---- signatures where they stand
 pub gathered : (keys next : ℕ) (sigs wigs : List Siger) (own seen : Counted) → own ≡ counted_of keys next sigs → seen ≡ counted_of 16 0 wigs

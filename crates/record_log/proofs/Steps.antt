@@ -36,18 +36,18 @@ stays h f p = stays_first h 0 f p
 
 -- ---- an acceptance: the holder was of good shape
 when_taken : (h : Holder) (x : Offered) → passes (unless_bad h x).answer ≡ true → unless_bad h x ≡ x
-when_taken h x p = by-test (eqb (holder_shape h) 0) refl p
+when_taken h x p = by_test (eqb (holder_shape h) 0) refl p
   where
-    by-test : (t : Bool) → eqb (holder_shape h) 0 ≡ t → passes (pick t x (turned_away h (holder_shape h))).answer ≡ true → pick t x (turned_away h (holder_shape h)) ≡ x
-    by-test true e q = refl
-    by-test false e q = clash (sym q ∙ e)
+    by_test : (t : Bool) → eqb (holder_shape h) 0 ≡ t → passes (pick t x (turned_away h (holder_shape h))).answer ≡ true → pick t x (turned_away h (holder_shape h)) ≡ x
+    by_test true e q = refl
+    by_test false e q = clash (sym q ∙ e)
 
 module _ (h : Holder) (x : Offered) (p : passes (unless_bad h x).answer ≡ true) where
   taken-passes : passes x.answer ≡ true
   taken-passes = ap (λ (y : Offered). passes y.answer) (sym (when_taken h x p)) ∙ p
 
-  taken-holder : (unless_bad h x).holder ≡ x.holder
-  taken-holder = ap (λ (y : Offered). y.holder) (when_taken h x p)
+  taken_holder : (unless_bad h x).holder ≡ x.holder
+  taken_holder = ap (λ (y : Offered). y.holder) (when_taken h x p)
 
 -- the unchecked fold makes the same of it
 fold-taken : (h : Holder) (c : Content) (mark next : ℕ) → passes (taken h c).answer ≡ true → (taken h c).holder ≡ fold_step h (record_of mark c next)
@@ -56,17 +56,17 @@ fold-taken h (snapshot s) mark next p = rw p
 fold-taken h (refusal n) mark next p = refl
 
 pub fold_same : (h : Holder) (f : First) → takes h f ≡ true → after h f ≡ fold_step h f
-fold_same h (record_of mark c next) p = taken-holder h (taken h c) p ∙ fold-taken h c mark next (taken-passes h (taken h c) p)
-fold_same h truncated p = taken-holder h (turned_away h 1) p
+fold_same h (record_of mark c next) p = taken_holder h (taken h c) p ∙ fold-taken h c mark next (taken-passes h (taken h c) p)
+fold_same h truncated p = taken_holder h (turned_away h 1) p
 
 -- "a and b are 0 for every accepted record"
 zero-taken : (h : Holder) (c : Content) → passes (taken h c).answer ≡ true → (taken h c).answer ≡ accepted
 zero-taken h (event e) p = events.takes-zero h e p
-zero-taken h (snapshot s) p = by-test (is_held h) p
+zero-taken h (snapshot s) p = by_test (is_held h) p
   where
-    by-test : (t : Bool) → passes (pick t (refused 5 0 0) accepted) ≡ true → pick t (refused 5 0 0) accepted ≡ accepted
-    by-test true q = clash (sym q)
-    by-test false q = refl
+    by_test : (t : Bool) → passes (pick t (refused 5 0 0) accepted) ≡ true → pick t (refused 5 0 0) accepted ≡ accepted
+    by_test true q = clash (sym q)
+    by_test false q = refl
 zero-taken h (refusal n) p = ap (λ (k : ℕ). refused k 0 0) (eqb-true n 0 p)
 
 pub takes-zero : (h : Holder) (f : First) → takes h f ≡ true → answer_at h f ≡ accepted
@@ -82,11 +82,11 @@ ShapedFirst truncated = Unit
 
 pub first-shaped : (s : List ℕ) → ShapedFirst (first_of s)
 unfolding first_of
-first-shaped s = by-test (both (leb 4 (length s)) (leb (4 + body_length s) (length s)))
+first-shaped s = by_test (both (leb 4 (length s)) (leb (4 + body_length s) (length s)))
   where
-    by-test : (t : Bool) → ShapedFirst (pick t (record_of (mark_of s) (content_of (mark_of s) (take (body_length s) (drop 4 s))) (4 + body_length s)) truncated)
-    by-test true = decoded_shape (mark_of s) (take (body_length s) (drop 4 s))
-    by-test false = tt
+    by_test : (t : Bool) → ShapedFirst (pick t (record_of (mark_of s) (content_of (mark_of s) (take (body_length s) (drop 4 s))) (4 + body_length s)) truncated)
+    by_test true = decoded_shape (mark_of s) (take (body_length s) (drop 4 s))
+    by_test false = tt
 
 pub records_shaped : (n : ℕ) (s : List ℕ) → Each ShapedFirst (records_from n s)
 unfolding records_from
@@ -105,6 +105,6 @@ module _ (h : Holder) (mark next : ℕ) where
 
 pub counts_on : (h : Holder) (f : First) → ShapedFirst f → takes h f ≡ true → (fs : List First) → RunsOn (expects (after h f)) fs → RunsOn (expects h) (f ∷ fs)
 counts_on h (record_of mark c next) good p fs r =
-    let e = taken-holder h (taken h c) p in
+    let e = taken_holder h (taken h c) p in
     counts-taken h mark next c good (taken-passes h (taken h c) p) fs (rw e at r)
 counts_on h truncated good p fs r = clash (sym (taken-passes h (turned_away h 1) p))

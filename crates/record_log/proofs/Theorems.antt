@@ -49,12 +49,12 @@ module _ (h : Holder) (s : List ℕ) where
 numbered : (h : Holder) (fs : List First) → Each ShapedFirst fs → RunsOn (expects h) (kept h fs)
 unfolding kept_of
 numbered h [] good = tt
-numbered h (f ∷ fs) good = by-test (takes h f) refl (numbered (after h f) fs good.1)
+numbered h (f ∷ fs) good = by_test (takes h f) refl (numbered (after h f) fs good.1)
   where
-    by-test : (t : Bool) → takes h f ≡ t → RunsOn (expects (after h f)) (kept (after h f) fs)
+    by_test : (t : Bool) → takes h f ≡ t → RunsOn (expects (after h f)) (kept (after h f) fs)
         → RunsOn (expects h) (pick t (f ∷ kept (after h f) fs) (kept (after h f) fs))
-    by-test true p ih = counts_on h f good.0 p (kept (after h f) fs) ih
-    by-test false p ih = let e : expects (after h f) ≡ expects h = ap expects (stays h f p) in rw e at ih
+    by_test true p ih = counts_on h f good.0 p (kept (after h f) fs) ih
+    by_test false p ih = let e : expects (after h f) ≡ expects h = ap expects (stays h f p) in rw e at ih
 
 pub no_gap : (h : Holder) (s : List ℕ) → RunsOn (expects h) (kept h (records_of s))
 no_gap h s = numbered h (records_of s) (records_shaped (length s) s)
@@ -79,12 +79,12 @@ first_bytes_decide h mark n body p q = ap (λ (c : Content). unless_bad h (taken
 pub cut_short : (h : Holder) (s : List ℕ) → either (ltb (length s) 4) (ltb (length s) (4 + body_length s)) ≡ true
     → received h s ≡ record { offered = unless_bad h (turned_away h 1); mark = 0; next = length s }
 unfolding received first_of
-cut_short h s e = by-test (ltb (length s) 4) refl (ltb (length s) (4 + body_length s)) refl e
+cut_short h s e = by_test (ltb (length s) 4) refl (ltb (length s) (4 + body_length s)) refl e
   where
-    by-test : (t : Bool) → ltb (length s) 4 ≡ t → (u : Bool) → ltb (length s) (4 + body_length s) ≡ u → either t u ≡ true
+    by_test : (t : Bool) → ltb (length s) 4 ≡ t → (u : Bool) → ltb (length s) (4 + body_length s) ≡ u → either t u ≡ true
         → received h s ≡ record { offered = unless_bad h (turned_away h 1); mark = 0; next = length s }
-    by-test true p u q r = rw (lt-leb 4 (length s) (ltb-true (length s) 4 p))
-    by-test false p true q r =
+    by_test true p u q r = rw (lt-leb 4 (length s) (ltb-true (length s) 4 p))
+    by_test false p true q r =
         let four : 4 ≤ length s = ltb-false (length s) 4 p in
         rw (le-leb 4 (length s) four, lt-leb (4 + body_length s) (length s) (ltb-true (length s) (4 + body_length s) q))
-    by-test false p false q r = clash (sym r)
+    by_test false p false q r = clash (sym r)

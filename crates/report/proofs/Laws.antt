@@ -79,8 +79,8 @@ module _ (t : Tally) (buf : List ℕ) (used : ℕ) (x : H.Held) (is : kept_is (t
     pub ended-nothing : x ≡ H.TheVariants.Nothing → (n : Number) → Put (end_with t false n) at out p b → Put (last_line t (kept_in buf used).holder) at out p b
     ended-nothing e n w = as_line at out (at_nothing t n ∙ as_held H.TheVariants.Nothing e) w
 
-    pub ended-bad : (k : ℕ) → x ≡ H.TheVariants.No k → (n : Number) → Put (end_with t false n) at out p b → Put (last_line t (kept_in buf used).holder) at out p b
-    ended-bad k e n w = as_line at out (at_nothing t n ∙ as_held (H.TheVariants.No k) e) w
+    pub ended_bad : (k : ℕ) → x ≡ H.TheVariants.No k → (n : Number) → Put (end_with t false n) at out p b → Put (last_line t (kept_in buf used).holder) at out p b
+    ended_bad k e n w = as_line at out (at_nothing t n ∙ as_held (H.TheVariants.No k) e) w
 
 -- ---- Bytes that are no record
 pub none : first_of [] ≡ truncated

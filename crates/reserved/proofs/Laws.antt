@@ -1,6 +1,6 @@
 -- Why 29 never comes: "the basic-prefix checks come first". Assumes nothing.
 --     first-refused    where 29's check would refuse a prefix, 12 to 15 have refused it
---     without-29       so the list of checks gives the same answer without it
+--     without_29       so the list of checks gives the same answer without it
 --     closed           the same for any prefix, behind 3 for one that is none
 --     incepts          the code's three groups of checks are that list
 use mathlib.Core.Path.{◌≡◌, refl, sym, ◌∙◌, ap}
@@ -69,12 +69,12 @@ module _ (h : Head) (b : Body) (anchors : ℕ) (fits : item_fits Prefix h.prefix
   not-zero n p z = let least = p.0 in omega arith
 
   -- so where 12 to 17 pass, it has nothing to say
-  may-commit : passes (identity_of h b anchors) ≡ true → may_commit h.prefix b.commitment ≡ accepted
-  may-commit p = by-test (pick (eqb b.commitment.next.count 0) true (transferable_class (class_of h.prefix.code))) first-refused
+  may_commit_lem : passes (identity_of h b anchors) ≡ true → may_commit h.prefix b.commitment ≡ accepted
+  may_commit_lem p = by_test (pick (eqb b.commitment.next.count 0) true (transferable_class (class_of h.prefix.code))) first-refused
     where
-      by-test : (good : Bool) → (passes (refuse_unless good (refused 29 0 0)) ≡ false → TwelveToFifteen (identity_of h b anchors).number) → refuse_unless good (refused 29 0 0) ≡ accepted
-      by-test true f = refl
-      by-test false f = absurd (not-zero _ (f refl) (eqb-true _ 0 p))
+      by_test : (good : Bool) → (passes (refuse_unless good (refused 29 0 0)) ≡ false → TwelveToFifteen (identity_of h b anchors).number) → refuse_unless good (refused 29 0 0) ≡ accepted
+      by_test true f = refl
+      by_test false f = absurd (not-zero _ (f refl) (eqb-true _ 0 p))
 
 -- a check that has nothing to say where the second one passes
 silent : (x y c : Answer) (xs ys : List Answer) → (passes y ≡ true → c ≡ accepted) → first_refusal (x ∷ y ∷ (xs ++ (c ∷ ys))) ≡ first_refusal (x ∷ y ∷ (xs ++ ys))
@@ -82,23 +82,23 @@ silent x y c xs ys f =
     then_same x _ _ (λ _. then_same y _ _ (λ p. tail_same xs (c ∷ ys) ys (ap (λ (d : Answer). first_refusal (d ∷ ys)) (f p) ∙ passed accepted ys refl)))
 
 module _ (h : Head) (b : Body) (anchors : ℕ) (signed : Answer) (receipted : ℕ → Answer) where
-  pub without-29 : item_fits Prefix h.prefix ≡ true → inception h b anchors signed receipted ≡ inception_without29 h b anchors signed receipted
+  pub without_29 : item_fits Prefix h.prefix ≡ true → inception h b anchors signed receipted ≡ inception_without29 h b anchors signed receipted
   unfolding inception inception_without29
-  without-29 fits =
+  without_29 fits =
       silent (genesis_sn h.sn) (identity_of h b anchors) (may_commit h.prefix b.commitment)
       (witness_faults 1 (listed b.additions) ∷ own_form b.authority ∷ signed ∷ next_form b.commitment ∷ [])
       (toad_fits b b.additions.count ∷ receipted b.additions.count ∷ [])
-      (may-commit h b anchors fits)
+      (may_commit_lem h b anchors fits)
 
   -- whatever the prefix
   pub closed : of_prefix h.prefix (inception h b anchors signed receipted) ≡ of_prefix h.prefix (inception_without29 h b anchors signed receipted)
   unfolding first_refusal
-  closed = by-test (item_fits Prefix h.prefix) without-29
+  closed = by_test (item_fits Prefix h.prefix) without_29
     where
-      by-test : (t : Bool) → (t ≡ true → inception h b anchors signed receipted ≡ inception_without29 h b anchors signed receipted)
+      by_test : (t : Bool) → (t ≡ true → inception h b anchors signed receipted ≡ inception_without29 h b anchors signed receipted)
           → first_refusal (refused (pick t 0 3) 0 0 ∷ inception h b anchors signed receipted ∷ []) ≡ first_refusal (refused (pick t 0 3) 0 0 ∷ inception_without29 h b anchors signed receipted ∷ [])
-      by-test true f = ap (λ (x : Answer). first_refusal (x ∷ [])) (f refl)
-      by-test false f = refl
+      by_test true f = ap (λ (x : Answer). first_refusal (x ∷ [])) (f refl)
+      by_test false f = refl
 
 -- ---- an inception from the groups of its checks
 abbrev pub start_of : Head → Body → ℕ → List Answer

@@ -29,7 +29,7 @@ module _ (s : List ℕ) {x : H.Held} where
       told is (H.TheVariants.Of m) e (ap (λ (g : Holder). one g) (eh ∙ ap (λ (j : KeyState). holding j) as-body))
 
   -- a record's mark and length stand before its body
-  pub four-within : Framed s x → (m : StateMarks) → x ≡ H.TheVariants.Of m → 4 ≤ length s
-  four-within f m e =
+  pub four_within : Framed s x → (m : StateMarks) → x ≡ H.TheVariants.Of m → 4 ≤ length s
+  four_within f m e =
       let w : Framed s (H.TheVariants.Of m) = rw e at f in
       w.four

@@ -32,7 +32,7 @@ use Rattle.format.specs.Fields.{sn_at, item_at, items_at, trait_at, config_at, f
 use Rattle.layout.specs.Records.{first_head_at, later_head_at, authority_at, commitment_at, tail_at, inception_body_at, inception_at, rotation_body_at, rotation_at, interaction_at, no_body, delegated, latest_at, snapshot_at}
 use Rattle.layout.specs.Records.{Content, event, refusal, as_event, as_snapshot, content_of}
 use Rattle.snapshot.proofs.Real.{Words, RealItems, RealThreshold, RealState}
-use Rattle.decoded.proofs.Gives.{Outcome, Gives, Some, Many, Few, outcome-pick, gives_then, gives-got, gives-bad, gives-classed, gives-ended, gives_byte, gives-many, gives-list}
+use Rattle.decoded.proofs.Gives.{Outcome, Gives, Some, Many, Few, outcome_pick, gives_then, gives_got, gives_bad, gives_classed, gives_ended, gives_byte, gives_many, gives_list}
 use Rattle.decoded.proofs.Shapes.{Trait, Latest, GoodSigers, Clauses, gives_trait, gives_flag, gives_latest, gives_clauses, gives_sigers}
 use Rattle.canonical.specs.Bytes.{Bytes}
 use Rattle.resume.proofs.Real.{RealHead, RealBody, RealEvent, Real, Raw, RealWeight, real_packed, real_simple, real_weighted, real_no_head, real_no_body}
@@ -67,7 +67,7 @@ Below w n = n < 256 ^ w
 
 gives_number : (w : ℕ) (s : List ℕ) → Bytes s → Gives (Below w) (num_at w s)
 unfolding Gives num_at
-gives_number w s b at = outcome-pick (Below w) (leb (at + w) (length s)) _ (bad 3) below (omega arith, omega arith)
+gives_number w s b at = outcome_pick (Below w) (leb (at + w) (length s)) _ (bad 3) below (omega arith, omega arith)
   where
     below : leb (at + w) (length s) ≡ true → Below w (be_from 0 (take w (drop at s)))
     below e =
@@ -81,7 +81,7 @@ Long w xs = length xs ≡ w
 gives_raw : (w : ℕ) (s : List ℕ) → Gives (Long w) (raw_at w s)
 unfolding Gives raw_at
 gives_raw w s at =
-    outcome-pick (Long w) (leb (at + w) (length s)) _ (bad 3) (λ e. part_length w at s (leb-true (at + w) (length s) e)) (omega arith, omega arith)
+    outcome_pick (Long w) (leb (at + w) (length s)) _ (bad 3) (λ e. part_length w at s (leb-true (at + w) (length s) e)) (omega arith, omega arith)
 
 -- ---- fields
 abbrev RealNumber : Number → Type 0
@@ -92,13 +92,13 @@ unfolding item_at
 gives_item k s =
     gives_then Some Raw (byte_at s) _ (gives_byte s)
     (λ code u. gives_then (Long 32) Raw (raw_at 32 s) _ (gives_raw 32 s)
-    (λ raw l. gives-classed Raw (fits_of k code) _ (λ e. l)))
+    (λ raw l. gives_classed Raw (fits_of k code) _ (λ e. l)))
 
 gives_items : (k : Kind) (s : List ℕ) → Gives RealItems (items_at k s)
 unfolding items_at
 gives_items k s =
-    gives_then (Few Raw 16) RealItems (list_at (item_at k s) 16 s) _ (gives-list Raw (item_at k s) (gives_item k s) 16 s)
-    (λ xs p. gives-got RealItems (packed xs) (real_packed xs p.0 p.1))
+    gives_then (Few Raw 16) RealItems (list_at (item_at k s) 16 s) _ (gives_list Raw (item_at k s) (gives_item k s) 16 s)
+    (λ xs p. gives_got RealItems (packed xs) (real_packed xs p.0 p.1))
 
 abbrev RealConfig : Config → Type 0
 RealConfig c = length c.traits ≡ 8
@@ -106,8 +106,8 @@ RealConfig c = length c.traits ≡ 8
 gives_config : (s : List ℕ) → Gives RealConfig (config_at s)
 unfolding config_at
 gives_config s =
-    gives_then (Few Trait 8) RealConfig (list_at (trait_at s) 8 s) _ (gives-list Trait (trait_at s) (gives_trait s) 8 s)
-    (λ ts p. gives-got RealConfig (packed_traits ts) (padded-length 0 8 ts p.1))
+    gives_then (Few Trait 8) RealConfig (list_at (trait_at s) 8 s) _ (gives_list Trait (trait_at s) (gives_trait s) 8 s)
+    (λ ts p. gives_got RealConfig (packed_traits ts) (padded-length 0 8 ts p.1))
 
 module _ (s : List ℕ) (bytes : Bytes s) where
   gives_sn : Gives RealNumber (sn_at s)
@@ -115,23 +115,23 @@ module _ (s : List ℕ) (bytes : Bytes s) where
   gives_sn =
       gives_then (Below 8) RealNumber (num_at 8 s) _ (gives_number 8 s bytes)
       (λ high h. gives_then (Below 8) RealNumber (num_at 8 s) _ (gives_number 8 s bytes)
-      (λ low l. gives-got RealNumber _ (h, l)))
+      (λ low l. gives_got RealNumber _ (h, l)))
 
   gives_weight : Gives RealWeight (weight_at s)
   unfolding weight_at
   gives_weight =
       gives_then (Below 8) RealWeight (num_at 8 s) _ (gives_number 8 s bytes)
       (λ num h. gives_then (Below 8) RealWeight (num_at 8 s) _ (gives_number 8 s bytes)
-      (λ den l. gives-got RealWeight _ (h, l)))
+      (λ den l. gives_got RealWeight _ (h, l)))
 
   gives_as : (tag : ℕ) → Gives RealThreshold (threshold_as tag s)
   unfolding threshold_as
-  gives_as zero = gives_then (Below 8) RealThreshold (num_at 8 s) _ (gives_number 8 s bytes) (λ n h. gives-got RealThreshold (simple n) (real_simple n h))
+  gives_as zero = gives_then (Below 8) RealThreshold (num_at 8 s) _ (gives_number 8 s bytes) (λ n h. gives_got RealThreshold (simple n) (real_simple n h))
   gives_as (suc zero) =
       gives_then Clauses RealThreshold (clauses_at s) _ (gives_clauses s)
-      (λ zs c. gives_then (Many RealWeight (total zs)) RealThreshold (many_at (weight_at s) (total zs)) _ (gives-many RealWeight (weight_at s) gives_weight (total zs))
-      (λ ws p. gives-got RealThreshold (weighted zs ws) (real_weighted zs ws c.0 (let l = p.1 in let h = c.1 in omega arith) p.0)))
-  gives_as (suc (suc n)) = gives-bad RealThreshold 3 (omega arith) (omega arith)
+      (λ zs c. gives_then (Many RealWeight (total zs)) RealThreshold (many_at (weight_at s) (total zs)) _ (gives_many RealWeight (weight_at s) gives_weight (total zs))
+      (λ ws p. gives_got RealThreshold (weighted zs ws) (real_weighted zs ws c.0 (let l = p.1 in let h = c.1 in omega arith) p.0)))
+  gives_as (suc (suc n)) = gives_bad RealThreshold 3 (omega arith) (omega arith)
 
   gives_threshold : Gives RealThreshold (threshold_at s)
   unfolding threshold_at
@@ -144,14 +144,14 @@ module _ (s : List ℕ) (bytes : Bytes s) where
       gives_then Raw RealHead (item_at Prefix s) _ (gives_item Prefix s)
       (λ prefix p. gives_then RealNumber RealHead (sn_at s) _ gives_sn
       (λ sn n. gives_then Raw RealHead (item_at Said s) _ (gives_item Said s)
-      (λ said q. gives-got RealHead _ (record { prefix = p; sn = n; said = q }))))
+      (λ said q. gives_got RealHead _ (record { prefix = p; sn = n; said = q }))))
 
   gives_later : Gives RealHead (later_head_at s)
   unfolding later_head_at
   gives_later =
       gives_then RealHead RealHead (first_head_at s) _ gives_first
       (λ h r. gives_then Raw RealHead (item_at Said s) _ (gives_item Said s)
-      (λ prior q. gives-got RealHead _ (record { prefix = r.prefix; sn = r.sn; said = r.said })))
+      (λ prior q. gives_got RealHead _ (record { prefix = r.prefix; sn = r.sn; said = r.said })))
 
   abbrev RealOwn : Authority → Type 0
   RealOwn a = RealItems a.keys × RealThreshold a.threshold
@@ -164,14 +164,14 @@ module _ (s : List ℕ) (bytes : Bytes s) where
   gives_own =
       gives_then RealItems RealOwn (items_at Key s) _ (gives_items Key s)
       (λ keys p. gives_then RealThreshold RealOwn (threshold_at s) _ gives_threshold
-      (λ t q. gives-got RealOwn _ (p, q)))
+      (λ t q. gives_got RealOwn _ (p, q)))
 
   gives_next : Gives RealNext (commitment_at s)
   unfolding commitment_at
   gives_next =
       gives_then RealItems RealNext (items_at Said s) _ (gives_items Said s)
       (λ next p. gives_then RealThreshold RealNext (threshold_at s) _ gives_threshold
-      (λ t q. gives-got RealNext _ (p, q)))
+      (λ t q. gives_got RealNext _ (p, q)))
 
   gives_inception_body : Gives RealBody (inception_body_at s)
   unfolding inception_body_at
@@ -181,7 +181,7 @@ module _ (s : List ℕ) (bytes : Bytes s) where
       (λ c q. gives_then RealItems RealBody (items_at Key s) _ (gives_items Key s)
       (λ witnesses w. gives_then (Below 4) RealBody (num_at 4 s) _ (gives_number 4 s bytes)
       (λ toad n. gives_then RealConfig RealBody (config_at s) _ (gives_config s)
-      (λ traits t. gives-got RealBody _
+      (λ traits t. gives_got RealBody _
       (record { keys = p.0; own = p.1; next = q.0; committed = q.1; additions = w; toad = n; traits = t }))))))
 
   gives_rotation_body : Gives RealBody (rotation_body_at s)
@@ -192,7 +192,7 @@ module _ (s : List ℕ) (bytes : Bytes s) where
       (λ c q. gives_then RealItems RealBody (items_at Key s) _ (gives_items Key s)
       (λ additions w. gives_then RealItems RealBody (items_at Key s) _ (gives_items Key s)
       (λ removals v. gives_then (Below 4) RealBody (num_at 4 s) _ (gives_number 4 s bytes)
-      (λ toad n. gives-got RealBody _
+      (λ toad n. gives_got RealBody _
       (record { keys = p.0; own = p.1; next = q.0; committed = q.1; additions = w; toad = n; traits = refl }))))))
 
   -- ---- the records
@@ -202,7 +202,7 @@ module _ (s : List ℕ) (bytes : Bytes s) where
       gives_then (Below 4) RealEvent (num_at 4 s) _ (gives_number 4 s bytes)
       (λ anchors u. gives_then GoodSigers RealEvent (sigers_at s) _ (gives_sigers s)
       (λ sigs v. gives_then GoodSigers RealEvent (sigers_at s) _ (gives_sigers s)
-      (λ receipts w. gives-ended RealEvent s _ (record { head = p; body = q }))))
+      (λ receipts w. gives_ended RealEvent s _ (record { head = p; body = q }))))
 
   gives_inception : Gives RealEvent (inception_at s)
   unfolding inception_at
@@ -235,7 +235,7 @@ module _ (s : List ℕ) (bytes : Bytes s) where
       (λ traits t. gives_then Some RealState (flag_at s) _ (gives_flag s)
       (λ transferable u. gives_then RealNumber RealState (sn_at s) _ gives_sn
       (λ sn m. gives_then Raw RealState (item_at Said s) _ (gives_item Said s)
-      (λ said d. gives-ended RealState s _
+      (λ said d. gives_ended RealState s _
       (record {
         prefix = p.prefix;
         sn = p.sn;

@@ -1,8 +1,8 @@
 -- An accepted event makes a state of good shape whose numbers fit, from such a state and such an event; so does a folded one.
 -- Assumes nothing.
 --     Took                           what an acceptance says, by the event's kind
---     good-stays, good-folds         the shape
---     real_stays, real-folds         the arrays and numbers
+--     good_stays, good_folds         the shape
+--     real_stays, real_folds         the arrays and numbers
 use mathlib.Core.Path.{◌≡◌, refl, sym, ◌∙◌}
 use mathlib.Core.Bool.{Bool, true, false}
 use mathlib.Core.List.{List, [], ◌∷◌, ◌++◌}
@@ -53,13 +53,13 @@ use Rattle.resume.proofs.Real.{RealEvent, RealHolder, Raw, real_packed, real_lis
 -- "A resulting witness list above 16 is refused (38)."
 pub few_members : (xs : List Item) → passes (change_of xs).answer ≡ true → length xs ≤ 16
 unfolding change_of
-few_members xs p = by-test (leb (length xs) 16) refl p
+few_members xs p = by_test (leb (length xs) 16) refl p
   where
-    by-test : (t : Bool) → leb (length xs) 16 ≡ t
+    by_test : (t : Bool) → leb (length xs) 16 ≡ t
         → passes (pick {A = Change} t (record { answer = accepted; list = items.packed xs }) (record { answer = refused 38 (length xs) 0; list = items.packed [] })).answer ≡ true
         → length xs ≤ 16
-    by-test true e q = leb-true (length xs) 16 e
-    by-test false e q = clash (sym q)
+    by_test true e q = leb-true (length xs) 16 e
+    by_test false e q = clash (sym q)
 
 pub few_witnesses : (s : KeyState) (e : Event) → passes (rotates s e) ≡ true → length (new_witnesses s e.body) ≤ 16
 few_witnesses s e p = few_members (new_witnesses s e.body) (list-fits s e p)
@@ -94,11 +94,11 @@ module _ (P : Item → Type 0) where
   each-filter : (f : Item → Bool) (xs : List Item) → Each P xs → Each P (filter f xs)
   unfolding filter
   each-filter f [] p = tt
-  each-filter f (x ∷ xs) p = by-test (f x) (each-filter f xs p.1)
+  each-filter f (x ∷ xs) p = by_test (f x) (each-filter f xs p.1)
     where
-      by-test : (t : Bool) → Each P (filter f xs) → Each P (pick t (x ∷ filter f xs) (filter f xs))
-      by-test true q = (p.0, q)
-      by-test false q = q
+      by_test : (t : Bool) → Each P (filter f xs) → Each P (pick t (x ∷ filter f xs) (filter f xs))
+      by_test true q = (p.0, q)
+      by_test false q = q
 
   each_more : (xs : List Item) (x : Item) → Each P xs → P x → Each P (xs ++ (x ∷ []))
   each_more [] x p q = (q, tt)
@@ -108,12 +108,12 @@ module _ (P : Item → Type 0) where
   unfolding joined
   each-joined kept [] p q = p
   each-joined kept (x ∷ more) p q =
-      by-test (items.member kept x) (each-joined kept more p q.1) (each-joined (kept ++ (x ∷ [])) more (each_more kept x p q.0) q.1)
+      by_test (items.member kept x) (each-joined kept more p q.1) (each-joined (kept ++ (x ∷ [])) more (each_more kept x p q.0) q.1)
     where
-      by-test : (t : Bool) → Each P (joined kept more) → Each P (joined (kept ++ (x ∷ [])) more)
+      by_test : (t : Bool) → Each P (joined kept more) → Each P (joined (kept ++ (x ∷ [])) more)
           → Each P (pick t (joined kept more) (joined (kept ++ (x ∷ [])) more))
-      by-test true a b = a
-      by-test false a b = b
+      by_test true a b = a
+      by_test false a b = b
 
   each-updated : (current cuts adds : List Item) → Each P current → Each P adds → Each P (updated current cuts adds)
   unfolding updated
@@ -321,35 +321,35 @@ module _ (s : KeyState) (e : Event) (p : state_shape s ≡ 0) where
   stepped-shape q = state_clear _ (good_next Interaction (holding s) e (holds s) (holding-shape s p) q)
 
 module _ (h : Holder) (e : Event) where
-  pub good-stays : holder_shape h ≡ 0 → event_shape e ≡ 0 → holder_shape (offered h e).holder ≡ 0
+  pub good_stays : holder_shape h ≡ 0 → event_shape e ≡ 0 → holder_shape (offered h e).holder ≡ 0
   unfolding offered next_state event_shape
-  good-stays p q = by-test (passes (answer_to h e)) refl
+  good_stays p q = by_test (passes (answer_to h e)) refl
     where
-      by-test : (t : Bool) → passes (answer_to h e) ≡ t → holder_shape (pick t (holding (next_as e.ilk h.state e)) h) ≡ 0
-      by-test true a = holding-shape (next_as e.ilk h.state e) (state_clear _ (good_next e.ilk h e (took h e a) p q))
-      by-test false a = p
+      by_test : (t : Bool) → passes (answer_to h e) ≡ t → holder_shape (pick t (holding (next_as e.ilk h.state e)) h) ≡ 0
+      by_test true a = holding-shape (next_as e.ilk h.state e) (state_clear _ (good_next e.ilk h e (took h e a) p q))
+      by_test false a = p
 
   pub real_stays : RealHolder h → RealEvent e → RealHolder (offered h e).holder
   unfolding offered next_state
-  real_stays p r = by-test (passes (answer_to h e)) refl
+  real_stays p r = by_test (passes (answer_to h e)) refl
     where
-      by-test : (t : Bool) → passes (answer_to h e) ≡ t → RealHolder (pick t (holding (next_as e.ilk h.state e)) h)
-      by-test true a = λ held. real_next e.ilk h e (took h e a) p r
-      by-test false a = p
+      by_test : (t : Bool) → passes (answer_to h e) ≡ t → RealHolder (pick t (holding (next_as e.ilk h.state e)) h)
+      by_test true a = λ held. real_next e.ilk h e (took h e a) p r
+      by_test false a = p
 
 -- ---- folded or refused: an inception keeps the event's own number, the others set what an accepted one sets
 fold-took : (k : Ilk) (h : Holder) (e : Event) → passes (foldable k h e) ≡ true → Took k h e
 fold-took Inception h e q = tt
-fold-took Rotation h e q = by-test (is_held h) refl q
+fold-took Rotation h e q = by_test (is_held h) refl q
   where
-    by-test : (t : Bool) → is_held h ≡ t → passes (pick t (change_of (new_witnesses h.state e.body)).answer (refused 8 0 0)) ≡ true → Took Rotation h e
-    by-test true p r = (p, few_members (new_witnesses h.state e.body) r)
-    by-test false p r = clash (sym r)
-fold-took Interaction h e q = by-test (is_held h) refl q
+    by_test : (t : Bool) → is_held h ≡ t → passes (pick t (change_of (new_witnesses h.state e.body)).answer (refused 8 0 0)) ≡ true → Took Rotation h e
+    by_test true p r = (p, few_members (new_witnesses h.state e.body) r)
+    by_test false p r = clash (sym r)
+fold-took Interaction h e q = by_test (is_held h) refl q
   where
-    by-test : (t : Bool) → is_held h ≡ t → passes (pick t accepted (refused 8 0 0)) ≡ true → Took Interaction h e
-    by-test true p r = p
-    by-test false p r = clash (sym r)
+    by_test : (t : Bool) → is_held h ≡ t → passes (pick t accepted (refused 8 0 0)) ≡ true → Took Interaction h e
+    by_test true p r = p
+    by_test false p r = clash (sym r)
 fold-took DelegatedInception h e q = clash (sym q)
 fold-took DelegatedRotation h e q = clash (sym q)
 
@@ -372,18 +372,18 @@ module _ (h : Holder) (e : Event) where
   unfolding fold_answer
   folded-took p = fold-took e.ilk h e (first_passes _ _ (first_passes _ _ (first_passes _ _ p).1).1).0
 
-  pub good-folds : holder_shape h ≡ 0 → event_shape e ≡ 0 → holder_shape (folded h e).holder ≡ 0
+  pub good_folds : holder_shape h ≡ 0 → event_shape e ≡ 0 → holder_shape (folded h e).holder ≡ 0
   unfolding folded fold_state event_shape
-  good-folds p q = by-test (passes (fold_answer h e)) refl
+  good_folds p q = by_test (passes (fold_answer h e)) refl
     where
-      by-test : (t : Bool) → passes (fold_answer h e) ≡ t → holder_shape (pick t (holding (folded_as e.ilk h.state e)) h) ≡ 0
-      by-test true a = holding-shape (folded_as e.ilk h.state e) (state_clear _ (good_folded e.ilk h e (folded-took a) p q))
-      by-test false a = p
+      by_test : (t : Bool) → passes (fold_answer h e) ≡ t → holder_shape (pick t (holding (folded_as e.ilk h.state e)) h) ≡ 0
+      by_test true a = holding-shape (folded_as e.ilk h.state e) (state_clear _ (good_folded e.ilk h e (folded-took a) p q))
+      by_test false a = p
 
-  pub real-folds : RealHolder h → RealEvent e → RealHolder (folded h e).holder
+  pub real_folds : RealHolder h → RealEvent e → RealHolder (folded h e).holder
   unfolding folded fold_state
-  real-folds p r = by-test (passes (fold_answer h e)) refl
+  real_folds p r = by_test (passes (fold_answer h e)) refl
     where
-      by-test : (t : Bool) → passes (fold_answer h e) ≡ t → RealHolder (pick t (holding (folded_as e.ilk h.state e)) h)
-      by-test true a = λ held. real_folded e.ilk h e (folded-took a) p r
-      by-test false a = p
+      by_test : (t : Bool) → passes (fold_answer h e) ≡ t → RealHolder (pick t (holding (folded_as e.ilk h.state e)) h)
+      by_test true a = λ held. real_folded e.ilk h e (folded-took a) p r
+      by_test false a = p

@@ -34,20 +34,20 @@ unfolding witness_faults
 clean_witnesses list xs = clean_first _
 
 pub clean_next : (next : ℕ) (t : Threshold) → Clean (next_form_of next (well_formed t next))
-clean_next next t = by-test (eqb next 0)
+clean_next next t = by_test (eqb next 0)
   where
-    by-test : (b : Bool) → Clean (pick b accepted (well_formed t next))
-    by-test true p = refl
-    by-test false p = clean_form t next p
+    by_test : (b : Bool) → Clean (pick b accepted (well_formed t next))
+    by_test true p = refl
+    by_test false p = clean_form t next p
 
 pub clean_receipts : (toad : ℕ) (ps : List ℕ) → Clean (receipts toad ps)
 unfolding receipts
-clean_receipts toad ps = by-test (eqb toad 0) (leb toad (length ps))
+clean_receipts toad ps = by_test (eqb toad 0) (leb toad (length ps))
   where
-    by-test : (a b : Bool) → Clean (pick a accepted (pick b accepted (refused 32 (length ps) toad)))
-    by-test true b p = refl
-    by-test false true p = refl
-    by-test false false p = clash (sym p)
+    by_test : (a b : Bool) → Clean (pick a accepted (pick b accepted (refused 32 (length ps) toad)))
+    by_test true b p = refl
+    by_test false true p = refl
+    by_test false false p = clash (sym p)
 
 -- ---- a change: nothing where it is refused
 pub change_stops : (x whole : Answer) (new : List Item) → x ≡ whole → (x.number ≡ 0 → ⊥) → record { answer = x; list = packed [] } ≡ changed whole new
@@ -62,11 +62,11 @@ roomed t new = pick t (record { answer = accepted; list = packed new }) (record 
 
 pub room : (new : List Item) → (change_of new).answer.number ≡ 0 → (change_of new).list ≡ packed new
 unfolding change_of
-room new e = by-test (leb (length new) 16) e
+room new e = by_test (leb (length new) 16) e
   where
-    by-test : (t : Bool) → (roomed t new).answer.number ≡ 0 → (roomed t new).list ≡ packed new
-    by-test true p = refl
-    by-test false p = absurd (omega (arith, p))
+    by_test : (t : Bool) → (roomed t new).answer.number ≡ 0 → (roomed t new).list ≡ packed new
+    by_test true p = refl
+    by_test false p = absurd (omega (arith, p))
 
 -- ---- a witness change, stage by stage: x found no fault, c is the change
 abbrev pub answer_of : Change → Answer
@@ -84,33 +84,33 @@ module _ (x faults : Answer) (new : List Item) (toad : ℕ) (receipted : ℕ →
     no_room ne = here c.answer (change_of new).answer _ (ap answer_of ec) ne ∙ sym (past x faults _ ex zx)
 
     module _ (zc : c.answer.number ≡ 0) where
-      is-new : c.list ≡ packed new
-      is-new = ap (λ (d : Change). d.list) ec ∙ room new (rw ec at zc)
+      is_new : c.list ≡ packed new
+      is_new = ap (λ (d : Change). d.list) ec ∙ room new (rw ec at zc)
 
       counts : c.list.count ≡ length new
-      counts = ap (λ (l : Items). l.count) is-new
+      counts = ap (λ (l : Items). l.count) is_new
 
       after-room : (zs : List Answer) → first_refusal (faults ∷ (change_of new).answer ∷ zs) ≡ first_refusal zs
       after-room zs = past x faults _ ex zx ∙ past c.answer (change_of new).answer zs (ap answer_of ec) zc
 
       module _ (y : Answer) (ey : y ≡ witness_threshold toad c.list.count) where
-        toad-is : y ≡ witness_threshold toad (length new)
-        toad-is = ey ∙ ap (witness_threshold toad) counts
+        toad_is : y ≡ witness_threshold toad (length new)
+        toad_is = ey ∙ ap (witness_threshold toad) counts
 
-        pub no-toad : (y.number ≡ 0 → ⊥) → y ≡ whole
-        no-toad ne = here y (witness_threshold toad (length new)) _ toad-is ne ∙ sym (after-room _)
+        pub no_toad : (y.number ≡ 0 → ⊥) → y ≡ whole
+        no_toad ne = here y (witness_threshold toad (length new)) _ toad_is ne ∙ sym (after-room _)
 
         module _ (zy : y.number ≡ 0) (z : Answer) (ez : z ≡ receipted c.list.count) where
-          receipts-is : z ≡ receipted (length new)
-          receipts-is = ez ∙ ap receipted counts
+          receipts_is : z ≡ receipted (length new)
+          receipts_is = ez ∙ ap receipted counts
 
-          after-toad : (zs : List Answer) → first_refusal (faults ∷ (change_of new).answer ∷ witness_threshold toad (length new) ∷ zs) ≡ first_refusal zs
-          after-toad zs = after-room _ ∙ past y (witness_threshold toad (length new)) zs toad-is zy
+          after_toad : (zs : List Answer) → first_refusal (faults ∷ (change_of new).answer ∷ witness_threshold toad (length new) ∷ zs) ≡ first_refusal zs
+          after_toad zs = after-room _ ∙ past y (witness_threshold toad (length new)) zs toad_is zy
 
           pub no-receipts : (z.number ≡ 0 → ⊥) → z ≡ whole
-          no-receipts ne = here z (receipted (length new)) [] receipts-is ne ∙ sym (after-toad _)
+          no-receipts ne = here z (receipted (length new)) [] receipts_is ne ∙ sym (after_toad _)
 
           pub rewitnesses : z.number ≡ 0 → Clean (receipted (length new)) → record { answer = z; list = c.list } ≡ changed whole new
           rewitnesses zz clean =
-              ap (λ (l : Items). record { answer = z; list = l }) is-new
-              ∙ change_goes z whole new (last z (receipted (length new)) clean receipts-is ∙ sym (after-toad _)) zz
+              ap (λ (l : Items). record { answer = z; list = l }) is_new
+              ∙ change_goes z whole new (last z (receipted (length new)) clean receipts_is ∙ sym (after_toad _)) zz

@@ -20,22 +20,22 @@ module _ {H A : Type 0} (step : H → A → H) (takes : H → A → Bool) (stays
       → end_of step h xs ≡ end_of fold h (kept_of step takes h xs)
   unfolding end_of kept_of
   held_is_fold fold same h [] = refl
-  held_is_fold fold same h (x ∷ xs) = by-test (takes h x) refl (held_is_fold fold same (step h x) xs)
+  held_is_fold fold same h (x ∷ xs) = by_test (takes h x) refl (held_is_fold fold same (step h x) xs)
     where
-      by-test : (t : Bool) → takes h x ≡ t → end_of step (step h x) xs ≡ end_of fold (step h x) (kept_of step takes (step h x) xs)
+      by_test : (t : Bool) → takes h x ≡ t → end_of step (step h x) xs ≡ end_of fold (step h x) (kept_of step takes (step h x) xs)
           → end_of step (step h x) xs ≡ end_of fold h (pick t (x ∷ kept_of step takes (step h x) xs) (kept_of step takes (step h x) xs))
-      by-test true p ih = ih ∙ ap (λ (k : H). end_of fold k (kept_of step takes (step h x) xs)) (same h x p)
-      by-test false p ih = ih ∙ ap (λ (k : H). end_of fold k (kept_of step takes (step h x) xs)) (stays h x p)
+      by_test true p ih = ih ∙ ap (λ (k : H). end_of fold k (kept_of step takes (step h x) xs)) (same h x p)
+      by_test false p ih = ih ∙ ap (λ (k : H). end_of fold k (kept_of step takes (step h x) xs)) (stays h x p)
 
   pub struck_out : (h : H) (xs : List A) → end_of step h (kept_of step takes h xs) ≡ end_of step h xs
   unfolding end_of kept_of
   struck_out h [] = refl
-  struck_out h (x ∷ xs) = by-test (takes h x) refl (struck_out (step h x) xs)
+  struck_out h (x ∷ xs) = by_test (takes h x) refl (struck_out (step h x) xs)
     where
-      by-test : (t : Bool) → takes h x ≡ t → end_of step (step h x) (kept_of step takes (step h x) xs) ≡ end_of step (step h x) xs
+      by_test : (t : Bool) → takes h x ≡ t → end_of step (step h x) (kept_of step takes (step h x) xs) ≡ end_of step (step h x) xs
           → end_of step h (pick t (x ∷ kept_of step takes (step h x) xs) (kept_of step takes (step h x) xs)) ≡ end_of step (step h x) xs
-      by-test true p ih = ih
-      by-test false p ih = ap (λ (k : H). end_of step k (kept_of step takes (step h x) xs)) (sym (stays h x p)) ∙ ih
+      by_test true p ih = ih
+      by_test false p ih = ap (λ (k : H). end_of step k (kept_of step takes (step h x) xs)) (sym (stays h x p)) ∙ ih
 
   module _ {X : Type 0} (answer : H → A → X) where
     pub later_answers : (h : H) (xs later : List A) → answers_of step answer (end_of step h (kept_of step takes h xs)) later ≡ answers_of step answer (end_of step h xs) later
@@ -45,10 +45,10 @@ module _ {H A : Type 0} (step : H → A → H) (takes : H → A → Bool) (stays
         → answers_of step answer h (kept_of step takes h xs) ≡ replicate (length (kept_of step takes h xs)) taken
     unfolding kept_of answers_of
     all-taken taken same h [] = refl
-    all-taken taken same h (x ∷ xs) = by-test (takes h x) refl (all-taken taken same (step h x) xs)
+    all-taken taken same h (x ∷ xs) = by_test (takes h x) refl (all-taken taken same (step h x) xs)
       where
-        by-test : (t : Bool) → takes h x ≡ t → answers_of step answer (step h x) (kept_of step takes (step h x) xs) ≡ replicate (length (kept_of step takes (step h x) xs)) taken
+        by_test : (t : Bool) → takes h x ≡ t → answers_of step answer (step h x) (kept_of step takes (step h x) xs) ≡ replicate (length (kept_of step takes (step h x) xs)) taken
             → answers_of step answer h (pick t (x ∷ kept_of step takes (step h x) xs) (kept_of step takes (step h x) xs))
             ≡ replicate (length (pick t (x ∷ kept_of step takes (step h x) xs) (kept_of step takes (step h x) xs))) taken
-        by-test true p ih = rw (same h x p) (ap (λ (ys : List X). taken ∷ ys) ih)
-        by-test false p ih = ap (λ (k : H). answers_of step answer k (kept_of step takes (step h x) xs)) (sym (stays h x p)) ∙ ih
+        by_test true p ih = rw (same h x p) (ap (λ (ys : List X). taken ∷ ys) ih)
+        by_test false p ih = ap (λ (k : H). answers_of step answer k (kept_of step takes (step h x) xs)) (sym (stays h x p)) ∙ ih

@@ -33,9 +33,9 @@ rising-start [] h = absurd (omega (arith, h))
 rising-start (x ∷ xs) h = refl
 
 module _ (ps : List ℕ) (last i : ℕ) where
-  pub rising-stop : i < length ps → get_or ps i 0 ≤ last → rising_after last (drop i ps) ≡ false
+  pub rising_stop : i < length ps → get_or ps i 0 ≤ last → rising_after last (drop i ps) ≡ false
   unfolding rising_after
-  rising-stop h g = rw (head_of 0 ps i h, le-ltb last (get_or ps i 0) g)
+  rising_stop h g = rw (head_of 0 ps i h, le-ltb last (get_or ps i 0) g)
 
   pub rising-next : i < length ps → last < get_or ps i 0 → rising_after (get_or ps i 0) (drop (i + 1) ps) ≡ rising_after last (drop i ps)
   unfolding rising_after
@@ -51,26 +51,26 @@ module _ (x y : ℕ) (ys : List ℕ) where
   unfolding insert
   insert-first h = rw (lt-ltb x y h)
 
-  insert-there : x ≡ y → insert x (y ∷ ys) ≡ y ∷ ys
+  insert_there : x ≡ y → insert x (y ∷ ys) ≡ y ∷ ys
   unfolding insert
-  insert-there h = rw (le-ltb x y (omega (arith, h)), eq-eqb x y h)
+  insert_there h = rw (le-ltb x y (omega (arith, h)), eq-eqb x y h)
 
-  insert-on : y < x → insert x (y ∷ ys) ≡ y ∷ insert x ys
+  insert_on : y < x → insert x (y ∷ ys) ≡ y ∷ insert x ys
   unfolding insert
-  insert-on h = rw (le-ltb x y (omega (arith, h)), ne_eqb x y (λ e. omega (arith, h, e)))
+  insert_on h = rw (le-ltb x y (omega (arith, h)), ne_eqb x y (λ e. omega (arith, h, e)))
 
   -- so what holds in the three cases holds
   by_order : (P : List ℕ → Type 0) → (x < y → P (x ∷ y ∷ ys)) → (x ≡ y → P (y ∷ ys)) → (y < x → P (y ∷ insert x ys)) → P (insert x (y ∷ ys))
-  by_order P first there on = by-test (ltb x y) (eqb x y) refl refl
+  by_order P first there on = by_test (ltb x y) (eqb x y) refl refl
     where
-      by-test : (a b : Bool) → ltb x y ≡ a → eqb x y ≡ b → P (insert x (y ∷ ys))
-      by-test true b e f = let h = ltb-true x y e in rw (insert-first h) (first h)
-      by-test false true e f = let h = eqb-true x y f in rw (insert-there h) (there h)
-      by-test false false e f =
+      by_test : (a b : Bool) → ltb x y ≡ a → eqb x y ≡ b → P (insert x (y ∷ ys))
+      by_test true b e f = let h = ltb-true x y e in rw (insert-first h) (first h)
+      by_test false true e f = let h = eqb-true x y f in rw (insert_there h) (there h)
+      by_test false false e f =
           let l = ltb-false x y e in
           let n = eqb-false x y f in
           let h : y < x = omega (arith, l, n) in
-          rw (insert-on h) (on h)
+          rw (insert_on h) (on h)
 
 -- what is in it
 swap : (a b c : Bool) → either a (either b c) ≡ either b (either a c)
@@ -163,8 +163,8 @@ module _ (ps : List ℕ) (need count i : ℕ) where
   pub count-again : i < length ps → among (drop (i + 1) ps) (get_or ps i 0) ≡ true → leb need (count + named (drop (i + 1) ps)) ≡ leb need (count + named (drop i ps))
   count-again h e = let n = named_next ps (get_or ps i 0) i (head_of 0 ps i h) in ap (leb need) (omega (arith, rw e at n))
 
-  pub count-new : i < length ps → among (drop (i + 1) ps) (get_or ps i 0) ≡ false → leb need (count + 1 + named (drop (i + 1) ps)) ≡ leb need (count + named (drop i ps))
-  count-new h e = let n = named_next ps (get_or ps i 0) i (head_of 0 ps i h) in ap (leb need) (omega (arith, rw e at n))
+  pub count_new : i < length ps → among (drop (i + 1) ps) (get_or ps i 0) ≡ false → leb need (count + 1 + named (drop (i + 1) ps)) ≡ leb need (count + named (drop i ps))
+  count_new h e = let n = named_next ps (get_or ps i 0) i (head_of 0 ps i h) in ap (leb need) (omega (arith, rw e at n))
 
   pub count-enough : need ≤ count → leb need (count + named (drop i ps)) ≡ true
   count-enough h = le-leb need (count + named (drop i ps)) (omega arith)
@@ -188,8 +188,8 @@ by_list t ps g r = rw (eq-eqb (shape_of t) 0 g, r)
 
 module _ (t : Threshold) (ps : List ℕ) where
   -- a judgement over the set is one over the list
-  pub of-set : (n set : ℕ) (j : Judgement) → length t.weights ≡ 16 → set ≡ set_of 16 (among ps) → j ≡ judged t n (bit_at set) → j ≡ judged t n (among ps)
-  of-set n set j h e d =
+  pub of_set : (n set : ℕ) (j : Judgement) → length t.weights ≡ 16 → set ≡ set_of 16 (among ps) → j ≡ judged t n (bit_at set) → j ≡ judged t n (among ps)
+  of_set n set j h e d =
       d ∙ ap (λ (s : ℕ). judged t n (bit_at s)) e ∙ judged-same (bit_at (set_of 16 (among ps))) (among ps) (bit_set 16 (among ps)) t n (omega (arith, h))
 
   -- a weighted threshold does not ask how many places there are
@@ -197,8 +197,8 @@ module _ (t : Threshold) (ps : List ℕ) where
   unfolding judged
   any-number n m f e = rw e
 
-  pub by-places : length t.weights ≡ 16 → shape_of t ≡ 0 → (t.tag ≡ 0 → ⊥) → judged t 0 (among ps) ≡ satisfied_by t ps
-  by-places h g ne =
+  pub by_places : length t.weights ≡ 16 → shape_of t ≡ 0 → (t.tag ≡ 0 → ⊥) → judged t 0 (among ps) ≡ satisfied_by t ps
+  by_places h g ne =
       let sorted : judged t 0 (among ps) ≡ judged t 0 (among (sorted_unique ps)) =
       judged-same (among ps) (among (sorted_unique ps)) (λ k _. sym (sorted_among ps k)) t 0 (omega (arith, h)) in
       sorted ∙ any-number 0 (named ps) (among (sorted_unique ps)) (ne_eqb t.tag 0 ne) ∙ by_list t (sorted_unique ps) g (sorted_rises ps)

@@ -30,11 +30,11 @@ picked false n ne e = absurd (ne e)
 -- fields in order: no fault is none in each
 pub no_fault : (n : ℕ) (ns : List ℕ) → first_fault (n ∷ ns) ≡ 0 → (n ≡ 0) × (first_fault ns ≡ 0)
 unfolding first_fault
-no_fault n ns e = by-test (eqb n 0) refl
+no_fault n ns e = by_test (eqb n 0) refl
   where
-    by-test : (b : Bool) → eqb n 0 ≡ b → (n ≡ 0) × (first_fault ns ≡ 0)
-    by-test true p = (eqb-true n 0 p, rw p at e)
-    by-test false p = let z : n ≡ 0 = rw p at e in clash (sym (eq-eqb n 0 z) ∙ p)
+    by_test : (b : Bool) → eqb n 0 ≡ b → (n ≡ 0) × (first_fault ns ≡ 0)
+    by_test true p = (eqb-true n 0 p, rw p at e)
+    by_test false p = let z : n ≡ 0 = rw p at e in clash (sym (eq-eqb n 0 z) ∙ p)
 
 pub item_fits_lem : (k : Kind) (x : Item) → item_shape k x ≡ 0 → item_fits k x ≡ true
 item_fits_lem k x e = picked (item_fits k x) 3 (λ z. absurd (omega (arith, z))) e

@@ -1,7 +1,7 @@
 -- What a judgement's number tells, of a set of places, of a lent list, and in 27 and 28. Assumes nothing.
 --     names        the judgement over a set of places
---     list-names   `satisfied_by_sorted_unique`; `satisfied_by` is this one of the sorted list
---     b-tells      an answer of 27 or 28: a is how many places there are, b the number
+--     list_names   `satisfied_by_sorted_unique`; `satisfied_by` is this one of the sorted list
+--     b_tells      an answer of 27 or 28: a is how many places there are, b the number
 use mathlib.Core.Path.{◌≡◌, refl, sym, ◌∙◌, ap}
 use mathlib.Core.Logic.{◌⊎◌, inl, inr}
 use mathlib.Core.List.{List}
@@ -39,52 +39,52 @@ module _ (t : Threshold) (places : List ℕ) where
   abbrev number : ℕ
   number = clause_named (judged_by t places)
 
-  of-simple : is_simple t ≡ true → number ≡ 0
+  of_simple : is_simple t ≡ true → number ≡ 0
   unfolding judged
-  of-simple e = rw e (by-test (leb t.simple (length places)))
+  of_simple e = rw e (by_test (leb t.simple (length places)))
     where
-      by-test : (b : Bool) → clause_named (pick b Met (Short 0)) ≡ 0
-      by-test true = refl
-      by-test false = refl
+      by_test : (b : Bool) → clause_named (pick b Met (Short 0)) ≡ 0
+      by_test true = refl
+      by_test false = refl
 
   of_none : is_simple t ≡ false → eqb t.clauses 0 ≡ true → number ≡ 0
   unfolding judged
   of_none e c = rw (e, c)
 
-  of-clauses : (f : Found) → is_simple t ≡ false → eqb t.clauses 0 ≡ false → first_from not 1 (by_clause t places) ≡ f → judged_by t places ≡ short_at f
+  of_clauses : (f : Found) → is_simple t ≡ false → eqb t.clauses 0 ≡ false → first_from not 1 (by_clause t places) ≡ f → judged_by t places ≡ short_at f
   unfolding judged
-  of-clauses f e c g = rw (e, c, g)
+  of_clauses f e c g = rw (e, c, g)
 
   -- of a clause that was found nothing of 'none to name' holds
-  some-named : (n : ℕ) → is_simple t ≡ false → eqb t.clauses 0 ≡ false → judged_by t places ≡ Short n → NoneToName t places → ⊥
-  some-named n e c j (inl met) = clash (sym met ∙ ap is_met j)
-  some-named n e c j (inr (inl simple)) = clash (sym simple ∙ e)
-  some-named n e c j (inr (inr none)) = clash (sym (eq-eqb t.clauses 0 none) ∙ c)
+  some_named : (n : ℕ) → is_simple t ≡ false → eqb t.clauses 0 ≡ false → judged_by t places ≡ Short n → NoneToName t places → ⊥
+  some_named n e c j (inl met) = clash (sym met ∙ ap is_met j)
+  some_named n e c j (inr (inl simple)) = clash (sym simple ∙ e)
+  some_named n e c j (inr (inr none)) = clash (sym (eq-eqb t.clauses 0 none) ∙ c)
 
-  by-found : (f : Found) → is_simple t ≡ false → eqb t.clauses 0 ≡ false → first_from not 1 (by_clause t places) ≡ f → Tells (NoneToName t places) t places number
-  by-found Nothing e c g = let j = of-clauses Nothing e c g in tells_none t places (ap clause_named j) (inl (ap is_met j))
-  by-found (At n) e c g =
-      let j = of-clauses (At n) e c g in
+  by_found : (f : Found) → is_simple t ≡ false → eqb t.clauses 0 ≡ false → first_from not 1 (by_clause t places) ≡ f → Tells (NoneToName t places) t places number
+  by_found Nothing e c g = let j = of_clauses Nothing e c g in tells_none t places (ap clause_named j) (inl (ap is_met j))
+  by_found (At n) e c g =
+      let j = of_clauses (At n) e c g in
       let first = searched n g in
       let k : number ≡ n = ap clause_named j in
-      (((λ z. absurd (omega (arith, z, k, first.0))), λ none. absurd (some-named n e c j none)), λ _. rw k first)
+      (((λ z. absurd (omega (arith, z, k, first.0))), λ none. absurd (some_named n e c j none)), λ _. rw k first)
 
   pub names : Tells (NoneToName t places) t places number
-  names = by-test (is_simple t) (eqb t.clauses 0) refl refl
+  names = by_test (is_simple t) (eqb t.clauses 0) refl refl
     where
-      by-test : (a b : Bool) → is_simple t ≡ a → eqb t.clauses 0 ≡ b → Tells (NoneToName t places) t places number
-      by-test true b e c = tells_none t places (of-simple e) (inr (inl e))
-      by-test false true e c = tells_none t places (of_none e c) (inr (inr (eqb-true t.clauses 0 c)))
-      by-test false false e c = by-found (first_from not 1 (by_clause t places)) e c refl
+      by_test : (a b : Bool) → is_simple t ≡ a → eqb t.clauses 0 ≡ b → Tells (NoneToName t places) t places number
+      by_test true b e c = tells_none t places (of_simple e) (inr (inl e))
+      by_test false true e c = tells_none t places (of_none e c) (inr (inr (eqb-true t.clauses 0 c)))
+      by_test false false e c = by_found (first_from not 1 (by_clause t places)) e c refl
 
 -- ---- a lent list: the sorted entry
 module _ (t : Threshold) (ps : List ℕ) where
   abbrev listed : ℕ
   listed = clause_named (satisfied_by_sorted_unique t ps)
 
-  of-list : (good rises : Bool) → eqb (shape_of t) 0 ≡ good → rising ps ≡ rises → satisfied_by_sorted_unique t ps ≡ pick (both good rises) (judged_by t ps) (Short 0)
+  of_list : (good rises : Bool) → eqb (shape_of t) 0 ≡ good → rising ps ≡ rises → satisfied_by_sorted_unique t ps ≡ pick (both good rises) (judged_by t ps) (Short 0)
   unfolding satisfied_by_sorted_unique
-  of-list good rises e r = rw (e, r)
+  of_list good rises e r = rw (e, r)
 
   of_good : satisfied_by_sorted_unique t ps ≡ judged_by t ps → shape_of t ≡ 0 → rising ps ≡ true → Tells (NoneToNameIn t ps) t ps listed
   of_good j z r =
@@ -97,13 +97,13 @@ module _ (t : Threshold) (ps : List ℕ) where
       still (inr (inl falls)) = clash (sym r ∙ falls)
       still (inr (inr bad)) = absurd (bad z)
 
-  pub list-names : Tells (NoneToNameIn t ps) t ps listed
-  list-names = by-test (eqb (shape_of t) 0) (rising ps) refl refl
+  pub list_names : Tells (NoneToNameIn t ps) t ps listed
+  list_names = by_test (eqb (shape_of t) 0) (rising ps) refl refl
     where
-      by-test : (a b : Bool) → eqb (shape_of t) 0 ≡ a → rising ps ≡ b → Tells (NoneToNameIn t ps) t ps listed
-      by-test false b e r = tells_none t ps (ap clause_named (of-list false b e r)) (inr (inr (eqb-false (shape_of t) 0 e)))
-      by-test true false e r = tells_none t ps (ap clause_named (of-list true false e r)) (inr (inl r))
-      by-test true true e r = of_good (of-list true true e r) (eqb-true (shape_of t) 0 e) r
+      by_test : (a b : Bool) → eqb (shape_of t) 0 ≡ a → rising ps ≡ b → Tells (NoneToNameIn t ps) t ps listed
+      by_test false b e r = tells_none t ps (ap clause_named (of_list false b e r)) (inr (inr (eqb-false (shape_of t) 0 e)))
+      by_test true false e r = tells_none t ps (ap clause_named (of_list true false e r)) (inr (inl r))
+      by_test true true e r = of_good (of_list true true e r) (eqb-true (shape_of t) 0 e) r
 
 -- ---- 27 and 28
 module _ (which : ℕ) (t : Threshold) (places : List ℕ) where
@@ -111,13 +111,13 @@ module _ (which : ℕ) (t : Threshold) (places : List ℕ) where
   unmet short (inl met) = clash (sym met ∙ short)
   unmet short (inr none) = none
 
-  by-judgement : (met : Bool) → satisfied t places ≡ met → (which ≡ 0 → ⊥) → (quorum which t places).number ≡ which → Refuses which t places (quorum which t places)
+  by_judgement : (met : Bool) → satisfied t places ≡ met → (which ≡ 0 → ⊥) → (quorum which t places).number ≡ which → Refuses which t places (quorum which t places)
   unfolding quorum
-  by-judgement true e some n = absurd (some (sym (rw e at n)))
-  by-judgement false e some n =
+  by_judgement true e some n = absurd (some (sym (rw e at n)))
+  by_judgement false e some n =
       let told = names t places in
       (rw e, (((λ z. unmet e (told.0.0 z)), λ none. told.0.1 (inr none)), told.1))
 
-  pub b-tells : (x : Answer) → (which ≡ 0 → ⊥) → x ≡ quorum which t places → x.number ≡ which → Refuses which t places x
-  b-tells x some e n =
-      rw e (by-judgement (satisfied t places) refl some (sym (ap (λ (y : Answer). y.number) e) ∙ n))
+  pub b_tells : (x : Answer) → (which ≡ 0 → ⊥) → x ≡ quorum which t places → x.number ≡ which → Refuses which t places x
+  b_tells x some e n =
+      rw e (by_judgement (satisfied t places) refl some (sym (ap (λ (y : Answer). y.number) e) ∙ n))

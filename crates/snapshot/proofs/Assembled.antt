@@ -150,29 +150,29 @@ module _ (x : Loose) (point signers last : List ℕ) where
         signers = leb-true (length signers) 65535 d.1;
       }
 
-  pub many-witnesses : 16 < x.witnessing.witnesses.count → fitting x point signers last ≡ false
+  pub many_witnesses : 16 < x.witnessing.witnesses.count → fitting x point signers last ≡ false
   unfolding fitting
-  many-witnesses h = rw (lt-leb x.witnessing.witnesses.count 16 h)
+  many_witnesses h = rw (lt-leb x.witnessing.witnesses.count 16 h)
 
   module _ (w : x.witnessing.witnesses.count ≤ 16) where
-    pub many-traits : 8 < x.config.count → fitting x point signers last ≡ false
+    pub many_traits : 8 < x.config.count → fitting x point signers last ≡ false
     unfolding fitting
-    many-traits h = rw (le-leb x.witnessing.witnesses.count 16 w, lt-leb x.config.count 8 h)
+    many_traits h = rw (le-leb x.witnessing.witnesses.count 16 w, lt-leb x.config.count 8 h)
 
     module _ (t : x.config.count ≤ 8) where
       by_runs : fitting x point signers last ≡ both (leb (length point) 49) (both (leb (length last) 49) (leb (length signers) 65535))
       unfolding fitting
       by_runs = rw (le-leb x.witnessing.witnesses.count 16 w, le-leb x.config.count 8 t)
 
-      pub long-point : 49 < length point → fitting x point signers last ≡ false
-      long-point h = rw (by_runs, lt-leb (length point) 49 h)
+      pub long_point : 49 < length point → fitting x point signers last ≡ false
+      long_point h = rw (by_runs, lt-leb (length point) 49 h)
 
       module _ (p : length point ≤ 49) where
-        pub long-last : 49 < length last → fitting x point signers last ≡ false
-        long-last h = rw (by_runs, le-leb (length point) 49 p, lt-leb (length last) 49 h)
+        pub long_last : 49 < length last → fitting x point signers last ≡ false
+        long_last h = rw (by_runs, le-leb (length point) 49 p, lt-leb (length last) 49 h)
 
-        pub by-signers : length last ≤ 49 → fitting x point signers last ≡ leb (length signers) 65535
-        by-signers h = rw (by_runs, le-leb (length point) 49 p, le-leb (length last) 49 h)
+        pub by_signers : length last ≤ 49 → fitting x point signers last ≡ leb (length signers) 65535
+        by_signers h = rw (by_runs, le-leb (length point) 49 p, le-leb (length last) 49 h)
 
   pub joined-size : (n : ℕ) → RealLoose x → x.config.count ≤ 8 → n ≡ length (items_bytes x.witnessing.witnesses)
       → 40 + n + x.config.count + length point + length signers + length last ≡ length (joined x point signers last)
@@ -214,35 +214,35 @@ module _ (x : Loose) (point signers last : List ℕ) (r : Bool) (e : r ≡ fitti
   fit h = sym e ∙ not-false r h
 
 module _ (x : Loose) (point signers last buf : List ℕ) where
-  pub assembled-unfit : fitting x point signers last ≡ false → assembled x point signers last buf ≡ (refused 4 0 0, buf)
+  pub assembled_unfit : fitting x point signers last ≡ false → assembled x point signers last buf ≡ (refused 4 0 0, buf)
   unfolding assembled
-  assembled-unfit f = rw f
+  assembled_unfit f = rw f
 
   module _ (f : fitting x point signers last ≡ true) (n : ℕ) (e : n ≡ length (joined x point signers last)) where
     pub assembled-short : length buf < 4 + n → assembled x point signers last buf ≡ (refused 41 (4 + n) 0, buf)
     unfolding assembled
     assembled-short h = rw f (placed-short (framed (joined x point signers last)) buf (4 + n) (framed-size (joined x point signers last) n e) h)
 
-    pub assembled-whole : 4 + n ≤ length buf
+    pub assembled_whole : 4 + n ≤ length buf
         → assembled x point signers last buf ≡ (refused 0 (4 + n) 0, over 0 (framed (joined x point signers last)) buf)
     unfolding assembled
-    assembled-whole h = rw f (placed_whole (framed (joined x point signers last)) buf (4 + n) (framed-size (joined x point signers last) n e) h)
+    assembled_whole h = rw f (placed_whole (framed (joined x point signers last)) buf (4 + n) (framed-size (joined x point signers last) n e) h)
 
     pub assembled-room : 4 + n ≤ length buf → 0 + length (framed (joined x point signers last)) ≤ length buf
     assembled-room h = let f = framed-size (joined x point signers last) n e in omega arith
 
 module _ (point buf : List ℕ) where
-  pub pointed-other : (length point ≡ 49 → ⊥) → pointed point buf ≡ buf
+  pub pointed_other : (length point ≡ 49 → ⊥) → pointed point buf ≡ buf
   unfolding pointed
-  pointed-other h = rw (ne_eqb (length point) 49 h)
+  pointed_other h = rw (ne_eqb (length point) 49 h)
 
   pub pointed-short : length point ≡ 49 → length buf < 87 → pointed point buf ≡ buf
   unfolding pointed
   pointed-short e h = rw (eq-eqb (length point) 49 e, lt-leb 87 (length buf) h)
 
-  pub pointed-whole : length point ≡ 49 → 87 ≤ length buf → pointed point buf ≡ over 37 (point ++ (2 ∷ [])) buf
+  pub pointed_whole : length point ≡ 49 → 87 ≤ length buf → pointed point buf ≡ over 37 (point ++ (2 ∷ [])) buf
   unfolding pointed
-  pointed-whole e h = rw (eq-eqb (length point) 49 e, le-leb 87 (length buf) h)
+  pointed_whole e h = rw (eq-eqb (length point) 49 e, le-leb 87 (length buf) h)
 
-  pub point-room : length point ≡ 49 → 87 ≤ length buf → 37 + length (point ++ (2 ∷ [])) ≤ length buf
-  point-room e h = rw (length-append, e) h
+  pub point_room : length point ≡ 49 → 87 ≤ length buf → 37 + length (point ++ (2 ∷ [])) ≤ length buf
+  point_room e h = rw (length-append, e) h

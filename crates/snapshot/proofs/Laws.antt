@@ -29,9 +29,9 @@ module _ {A : Type 0} (f : A → List ℕ) (places : List A) (n i : ℕ) where
         → Left all at b₀ (each f (drop (i + 1) (take n places))) q b'
     each_more d hn hi w = more (f (get_or places i d)) (each f (drop (i + 1) (take n places))) (each_left d hn hi) w
 
-    pub each-done : n ≤ i → Wrote all at b₀ p b
+    pub each_done : n ≤ i → Wrote all at b₀ p b
     unfolding each
-    each-done h = done From (rw (drop_of_length-le (take n places) (used-end places n i h))) l
+    each_done h = done From (rw (drop_of_length-le (take n places) (used-end places n i h))) l
 
 -- ---- the bytes of a threshold, by its tag; `total` is how many weights there are
 module _ (t : Threshold) where

@@ -29,7 +29,7 @@ use Rattle.shape.specs.State.{state_head, state_tail, state_shape}
 use Rattle.writer.specs.Writing.{be}
 use Rattle.snapshot.specs.Bytes.{words_bytes, item_bytes, each, items_bytes, counted, config_bytes, threshold_bytes}
 use Rattle.snapshot.specs.Saved.{point_bytes, group_bytes, head_bytes, tail_bytes, body_bytes}
-use Rattle.snapshot.proofs.Shapes.{is-weighted, good_state}
+use Rattle.snapshot.proofs.Shapes.{is_weighted, good_state}
 use Rattle.snapshot.proofs.Real.{RealItems, RealThreshold, RealState, real_state}
 use Rattle.snapshot.proofs.Size.{items_size, simple-size, weighted-size, group-size, body_size}
 
@@ -39,13 +39,13 @@ items_most k l r e =
     omega (arith, items_size l r few)
 
 threshold_most : (t : Threshold) → RealThreshold t → threshold.shape_of t ≡ 0 → length (threshold_bytes t) ≤ 274
-threshold_most t r e = by-tag (eqb t.tag 0) refl
+threshold_most t r e = by_tag (eqb t.tag 0) refl
   where
-    by-tag : (b : Bool) → eqb t.tag 0 ≡ b → length (threshold_bytes t) ≤ 274
-    by-tag true p = omega (arith, simple-size t (eqb-true t.tag 0 p))
-    by-tag false p =
+    by_tag : (b : Bool) → eqb t.tag 0 ≡ b → length (threshold_bytes t) ≤ 274
+    by_tag true p = omega (arith, simple-size t (eqb-true t.tag 0 p))
+    by_tag false p =
         let h = eqb-false t.tag 0 p in
-        let g = is-weighted t e h in
+        let g = is_weighted t e h in
         let few = g.few in
         let light = g.light in
         omega (arith, weighted-size t r (threshold.weights_in t) h refl few light)

@@ -40,9 +40,9 @@ module _ (s : List ℕ) (at : ℕ) (xs rest : List ℕ) (h : at ≤ length s) (e
 
 -- ---- one field after another
 module _ {A B : Type 0} (R : List ℕ → Type 0) (f : List ℕ → ℕ → Parse A) (k : A → List ℕ → ℕ → Parse B) where
-  pub code-then : (xs ys : List ℕ) (a : A) (b : B) → Codes f xs a → Reads R (k a) ys b → Reads R (λ s. ◌>>=◌ (f s) (λ v. k v s)) (xs ++ ys) b
+  pub code_then : (xs ys : List ℕ) (a : A) (b : B) → Codes f xs a → Reads R (k a) ys b → Reads R (λ s. ◌>>=◌ (f s) (λ v. k v s)) (xs ++ ys) b
   unfolding Reads
-  code-then xs ys a b p q s at rest r h e =
+  code_then xs ys a b p q s at rest r h e =
       let d : drop at s ≡ xs ++ (ys ++ rest) = rw append_assoc at e in
       rw (
         p s at (ys ++ rest) tt h d,
@@ -52,8 +52,8 @@ module _ {A B : Type 0} (R : List ℕ → Type 0) (f : List ℕ → ℕ → Pars
       )
 
   -- the last field
-  pub code-last : (xs : List ℕ) (a : A) (b : B) → Codes f xs a → Reads R (k a) [] b → Reads R (λ s. ◌>>=◌ (f s) (λ v. k v s)) xs b
-  code-last xs a b p q = let n : xs ++ [] ≡ xs = append-nil xs in rw (← n) (code-then xs [] a b p q)
+  pub code_last : (xs : List ℕ) (a : A) (b : B) → Codes f xs a → Reads R (k a) [] b → Reads R (λ s. ◌>>=◌ (f s) (λ v. k v s)) xs b
+  code_last xs a b p q = let n : xs ++ [] ≡ xs = append-nil xs in rw (← n) (code_then xs [] a b p q)
 
 pub code_got : {A : Type 0} (R : List ℕ → Type 0) (a b : A) → a ≡ b → Reads R (λ s. got a) [] b
 unfolding Reads
@@ -109,19 +109,19 @@ Each P [] = Unit
 Each P (x ∷ xs) = P x × Each P xs
 
 module _ {A : Type 0} (f : List ℕ → ℕ → Parse A) (bytes : A → List ℕ) where
-  pub code-many : (xs : List A) → Each (λ x. Codes f (bytes x) x) xs → Codes (λ s. many_at (f s) (length xs)) (each bytes xs) xs
+  pub code_many : (xs : List A) → Each (λ x. Codes f (bytes x) x) xs → Codes (λ s. many_at (f s) (length xs)) (each bytes xs) xs
   unfolding Reads many_at each
-  code-many [] c s at rest r k e = rw add-zero
-  code-many (x ∷ xs) c s at rest r k e =
+  code_many [] c s at rest r k e = rw add-zero
+  code_many (x ∷ xs) c s at rest r k e =
       let d : drop at s ≡ bytes x ++ (each bytes xs ++ rest) = rw append_assoc at e in
-      let n = code-many xs c.1 s (at + length (bytes x)) rest tt (within s at (bytes x) _ k d) (after s at (bytes x) _ k d) in
+      let n = code_many xs c.1 s (at + length (bytes x)) rest tt (within s at (bytes x) _ k d) (after s at (bytes x) _ k d) in
       rw (c.0 s at (each bytes xs ++ rest) tt k d, n, length-append, add_assoc)
 
-  pub code-list : (limit : ℕ) (xs : List A) → length xs ≤ limit → Each (λ x. Codes f (bytes x) x) xs
+  pub code_list : (limit : ℕ) (xs : List A) → length xs ≤ limit → Each (λ x. Codes f (bytes x) x) xs
       → Codes (λ s. list_at (f s) limit s) (length xs ∷ each bytes xs) xs
   unfolding Reads list_at
-  code-list limit xs h c s at rest r k e =
+  code_list limit xs h c s at rest r k e =
       let w = within s at (length xs ∷ []) (each bytes xs ++ rest) k e in
-      let m = code-many xs c s (at + 1) rest tt w (after s at (length xs ∷ []) (each bytes xs ++ rest) k e) in
+      let m = code_many xs c s (at + 1) rest tt w (after s at (length xs ∷ []) (each bytes xs ++ rest) k e) in
       let j : at + 1 + length (each bytes xs) ≡ at + suc (length (each bytes xs)) = omega arith in
       rw (code_byte (length xs) s at (each bytes xs ++ rest) tt k e, le-leb (length xs) limit h, m, j)

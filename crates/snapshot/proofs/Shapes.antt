@@ -41,17 +41,17 @@ pub record Weighted (t : Threshold) : Type 0 where
   pub rest : rest_zero t t.clauses (weights_in t) ≡ true
 
 module _ (t : Threshold) (e : shape_of t ≡ 0) where
-  pub is-simple : t.tag ≡ 0 → Simple t
+  pub is_simple_lem : t.tag ≡ 0 → Simple t
   unfolding shape_of
-  is-simple h =
+  is_simple_lem h =
       let q : is_simple t ≡ true = eq-eqb t.tag 0 h in
       let p = picked (both (eqb t.clauses 0) (rest_zero t 0 0)) 3 no-3 (rw q at e) in
       let r = both_true (eqb t.clauses 0) (rest_zero t 0 0) p in
       record { none = eqb-true t.clauses 0 r.0; rest = r.1 }
 
-  pub is-weighted : (t.tag ≡ 0 → ⊥) → Weighted t
+  pub is_weighted : (t.tag ≡ 0 → ⊥) → Weighted t
   unfolding shape_of
-  is-weighted h =
+  is_weighted h =
       let q : is_simple t ≡ false = ne_eqb t.tag 0 h in
       let a = pick_in (eqb t.tag 1) _ 3 no-3 (rw q at e) in
       let b = pick_in (both (leb t.clauses 16) (leb (weights_in t) 16)) _ 4 no-4 a.1 in

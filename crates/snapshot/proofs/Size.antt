@@ -134,9 +134,9 @@ record-size s n e = rw (length-append, length-append, length-be, ← e) (omega a
 
 -- ---- what saving answers, by the three checks
 module _ (h : Holder) (buf : List ℕ) where
-  pub saved-fault : (n : ℕ) → n ≡ holder_shape h → (n ≡ 0 → ⊥) → saved h buf ≡ (refused n 0 0, buf)
+  pub saved_fault : (n : ℕ) → n ≡ holder_shape h → (n ≡ 0 → ⊥) → saved h buf ≡ (refused n 0 0, buf)
   unfolding saved
-  saved-fault n e ne = rw (← e, ne_eqb n 0 ne)
+  saved_fault n e ne = rw (← e, ne_eqb n 0 ne)
 
   module _ (n : ℕ) (e : n ≡ holder_shape h) (z : n ≡ 0) where
     pub saved-empty : is_held h ≡ false → saved h buf ≡ (refused 8 0 0, buf)
@@ -148,9 +148,9 @@ module _ (h : Holder) (buf : List ℕ) where
       unfolding saved
       saved-short l = rw (← e, eq-eqb n 0 z, held, ← s, lt-leb size (length buf) l)
 
-      pub saved-whole : size ≤ length buf → saved h buf ≡ (refused 0 size 0, over 0 (encoded h.state) buf)
+      pub saved_whole : size ≤ length buf → saved h buf ≡ (refused 0 size 0, over 0 (encoded h.state) buf)
       unfolding saved
-      saved-whole l = rw (← e, eq-eqb n 0 z, held, ← s, le-leb size (length buf) l)
+      saved_whole l = rw (← e, eq-eqb n 0 z, held, ← s, le-leb size (length buf) l)
 
   -- a held state whose holder has no fault has none
   pub held-shape : (n : ℕ) → n ≡ holder_shape h → n ≡ 0 → is_held h ≡ true → state_shape h.state ≡ 0

@@ -22,8 +22,8 @@ module _ (w₀ w : List ℕ) (from i : ℕ) (h : from + i < length w) (same : le
       let q : get_or w (from + i) 0 ≡ get_or w₀ (from + i) 0 = rw (add-zero (from + i)) at p in
       q ∙ sym (get_or-drop from w₀ i 0)
 
-  pub slide-moved : take (i + 1) (set w i (get_or w (from + i) 0)) ≡ take (i + 1) (drop from w₀)
-  slide-moved =
+  pub slide_moved : take (i + 1) (set w i (get_or w (from + i) 0)) ≡ take (i + 1) (drop from w₀)
+  slide_moved =
       let k : i < length w = omega arith in
       let j : i < length (drop from w₀) = simp length-drop (omega arith) in
       rw (add-one i, take-suc-set w i (get_or w (from + i) 0) k, take-suc (drop from w₀) i 0 j, byte, moved)

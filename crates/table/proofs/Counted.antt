@@ -13,7 +13,7 @@ use Rattle.threshold.specs.Threshold.{satisfied}
 use Rattle.verification.specs.Verification.{signatures, verified_places, exposed_places}
 use Rattle.authority.specs.Authority.{too_few, quorum}
 use Rattle.short_clause.specs.ShortClause.{Refuses}
-use Rattle.short_clause.proofs.Laws.{b-tells}
+use Rattle.short_clause.proofs.Laws.{b_tells}
 use Rattle.event.specs.declared.Event.{Event}
 use Rattle.state.specs.declared.Holder.{Holder}
 use Rattle.ingest.specs.Judgement.{answer_to, offered}
@@ -46,9 +46,9 @@ module _ (h : Holder) (e : Event) where
   pub b_of_27 : (offered h e).answer.number ≡ 27
       → let a = signers e.ilk h.state e in Refuses 27 a.threshold (verified_places a.keys.count (signatures e.sigs)) (offered h e).answer
   unfolding offered
-  b_of_27 n = b-tells 27 _ _ (answer_to h e) (λ z. omega (arith, z)) (counts.0 n) n
+  b_of_27 n = b_tells 27 _ _ (answer_to h e) (λ z. omega (arith, z)) (counts.0 n) n
 
   pub b_of_28 : (offered h e).answer.number ≡ 28
       → let s = h.state in Refuses 28 s.commitment.threshold (exposed_places e.body.authority.keys.count s.commitment.next.count (signatures e.sigs)) (offered h e).answer
   unfolding offered
-  b_of_28 n = b-tells 28 _ _ (answer_to h e) (λ z. omega (arith, z)) (counts.1 n) n
+  b_of_28 n = b_tells 28 _ _ (answer_to h e) (λ z. omega (arith, z)) (counts.1 n) n

@@ -32,139 +32,139 @@ use Rattle.record_log.proofs.Steps.{ShapedFirst, first-shaped}
 use Rattle.found.specs.Kept.{Kept, none, one, alone, snapshot_first, state_in, kept_in}
 use Rattle.in_place.specs.Calls.{Left, untouched, after_saving, settled_in, on_state, offered_in, body_offered_in, folded_first, folded_in, body_folded_in, asked}
 use Rattle.table.proofs.Laws.{pick_in}
-use Rattle.table.proofs.Stages.{holder-shape-in, answer-in, fold-answer-in}
+use Rattle.table.proofs.Stages.{holder_shape_in, answer_in, fold_answer_in}
 
 module _ (P : ℕ → Type 0) (low : (n : ℕ) → n ≤ 28 → P n) (high : (n : ℕ) → 30 ≤ n → n ≤ 38 → P n) where
   -- ---- structs
-  pub offered-in : (h : Holder) (e : Event) → P (offered h e).answer.number
+  pub offered_in_lem : (h : Holder) (e : Event) → P (offered h e).answer.number
   unfolding offered
-  offered-in h e = answer-in P low high h e
+  offered_in_lem h e = answer_in P low high h e
 
-  pub ingested-in : (s : KeyState) (e : Event) → P (ingested s e).answer.number
+  pub ingested_in : (s : KeyState) (e : Event) → P (ingested s e).answer.number
   unfolding ingested
-  ingested-in s e = offered-in (holding s) e
+  ingested_in s e = offered_in_lem (holding s) e
 
-  pub folded-in : (h : Holder) (e : Event) → P (folded h e).answer.number
+  pub folded_in_lem : (h : Holder) (e : Event) → P (folded h e).answer.number
   unfolding folded
-  folded-in h e = fold-answer-in P low high h e
+  folded_in_lem h e = fold_answer_in P low high h e
 
   -- ---- bytes: 1 to 4, then what the event gets
   abbrev Good : Offered → Type 0
   Good o = P o.answer.number
 
-  refusal-in : (h : Holder) (n : ℕ) → Shaped (refusal n) → Good (turned_away h n)
-  refusal-in h n good = let most = good.1 in low n (omega arith)
+  refusal_in : (h : Holder) (n : ℕ) → Shaped (refusal n) → Good (turned_away h n)
+  refusal_in h n good = let most = good.1 in low n (omega arith)
 
   taken_in : (h : Holder) (c : Content) → Shaped c → Good (taken h c)
-  taken_in h (event e) good = offered-in h e
+  taken_in h (event e) good = offered_in_lem h e
   taken_in h (snapshot s) good = pick_in (λ (x : Answer). P x.number) (is_held h) (refused 5 0 0) accepted (low 5 (omega arith)) (low 0 (omega arith))
-  taken_in h (refusal n) good = refusal-in h n good
+  taken_in h (refusal n) good = refusal_in h n good
 
-  unless-bad-in : (h : Holder) (o : Offered) → Good o → Good (unless_bad h o)
-  unless-bad-in h o p = pick_in Good (eqb (holder_shape h) 0) o _ p (holder-shape-in P low high h)
+  unless_bad_in : (h : Holder) (o : Offered) → Good o → Good (unless_bad h o)
+  unless_bad_in h o p = pick_in Good (eqb (holder_shape h) 0) o _ p (holder_shape_in P low high h)
 
-  pub body-in : (h : Holder) (mark : ℕ) (body : List ℕ) → Good (body_taken h mark body)
+  pub body_in : (h : Holder) (mark : ℕ) (body : List ℕ) → Good (body_taken h mark body)
   unfolding body_taken
-  body-in h mark body = unless-bad-in h _ (taken_in h (content_of mark body) (decoded_shape mark body))
+  body_in h mark body = unless_bad_in h _ (taken_in h (content_of mark body) (decoded_shape mark body))
 
   first_in : (h : Holder) (end : ℕ) (f : First) → ShapedFirst f → Good (first_taken h end f).offered
-  first_in h end (record_of mark c next) good = unless-bad-in h (taken h c) (taken_in h c good)
-  first_in h end truncated good = unless-bad-in h (turned_away h 1) (low 1 (omega arith))
+  first_in h end (record_of mark c next) good = unless_bad_in h (taken h c) (taken_in h c good)
+  first_in h end truncated good = unless_bad_in h (turned_away h 1) (low 1 (omega arith))
 
-  pub received-in : (h : Holder) (s : List ℕ) → Good (received h s).offered
+  pub received_in : (h : Holder) (s : List ℕ) → Good (received h s).offered
   unfolding received
-  received-in h s = first_in h (length s) (first_of s) (first-shaped s)
+  received_in h s = first_in h (length s) (first_of s) (first-shaped s)
 
-  pub answers-in : (h : Holder) (fs : List First) → Each ShapedFirst fs → Each (λ (x : Answer). P x.number) (answers h fs)
+  pub answers_in : (h : Holder) (fs : List First) → Each ShapedFirst fs → Each (λ (x : Answer). P x.number) (answers h fs)
   unfolding answers_of
-  answers-in h [] good = tt
-  answers-in h (f ∷ fs) good = (first_in h 0 f good.0, answers-in (after h f) fs good.1)
+  answers_in h [] good = tt
+  answers_in h (f ∷ fs) good = (first_in h 0 f good.0, answers_in (after h f) fs good.1)
 
   -- the same unchecked
-  fold-taken-in : (h : Holder) (c : Content) → Shaped c → Good (fold_taken h c)
-  fold-taken-in h (event e) good = folded-in h e
-  fold-taken-in h (snapshot s) good = low 2 (omega arith)
-  fold-taken-in h (refusal n) good = refusal-in h n good
+  fold_taken_in : (h : Holder) (c : Content) → Shaped c → Good (fold_taken h c)
+  fold_taken_in h (event e) good = folded_in_lem h e
+  fold_taken_in h (snapshot s) good = low 2 (omega arith)
+  fold_taken_in h (refusal n) good = refusal_in h n good
 
-  unless-snapshot-in : (h : Holder) (mark : ℕ) (c : Content) → Shaped c → Good (unless_bad h (pick (eqb mark 0x4B53) (turned_away h 2) (fold_taken h c)))
-  unless-snapshot-in h mark c good = unless-bad-in h _ (pick_in Good (eqb mark 0x4B53) (turned_away h 2) (fold_taken h c) (low 2 (omega arith)) (fold-taken-in h c good))
+  unless_snapshot_in : (h : Holder) (mark : ℕ) (c : Content) → Shaped c → Good (unless_bad h (pick (eqb mark 0x4B53) (turned_away h 2) (fold_taken h c)))
+  unless_snapshot_in h mark c good = unless_bad_in h _ (pick_in Good (eqb mark 0x4B53) (turned_away h 2) (fold_taken h c) (low 2 (omega arith)) (fold_taken_in h c good))
 
-  pub body-folded-in : (h : Holder) (mark : ℕ) (body : List ℕ) → Good (body_folded h mark body)
+  pub body_folded_in_lem : (h : Holder) (mark : ℕ) (body : List ℕ) → Good (body_folded h mark body)
   unfolding body_folded
-  body-folded-in h mark body = unless-snapshot-in h mark (content_of mark body) (decoded_shape mark body)
+  body_folded_in_lem h mark body = unless_snapshot_in h mark (content_of mark body) (decoded_shape mark body)
 
-  first-folded-in : (h : Holder) (f : First) → ShapedFirst f → Good (folded_first h f)
-  first-folded-in h (record_of mark c next) good = unless-snapshot-in h mark c good
-  first-folded-in h truncated good = unless-bad-in h (turned_away h 1) (low 1 (omega arith))
+  first_folded_in : (h : Holder) (f : First) → ShapedFirst f → Good (folded_first h f)
+  first_folded_in h (record_of mark c next) good = unless_snapshot_in h mark c good
+  first_folded_in h truncated good = unless_bad_in h (turned_away h 1) (low 1 (omega arith))
 
   -- ---- what bytes hold: 0, or 1 to 4
-  alone-in : (whole : Bool) (c : Content) → Shaped c → P (alone whole c).number
-  alone-in whole (event e) good = low 2 (omega arith)
-  alone-in whole (snapshot s) good = pick_in (λ (k : Kept). P k.number) whole (one (holding s)) (none 3) (low 0 (omega arith)) (low 3 (omega arith))
-  alone-in whole (refusal n) good = let most = good.1 in low n (omega arith)
+  alone_in : (whole : Bool) (c : Content) → Shaped c → P (alone whole c).number
+  alone_in whole (event e) good = low 2 (omega arith)
+  alone_in whole (snapshot s) good = pick_in (λ (k : Kept). P k.number) whole (one (holding s)) (none 3) (low 0 (omega arith)) (low 3 (omega arith))
+  alone_in whole (refusal n) good = let most = good.1 in low n (omega arith)
 
-  snapshot-first-in : (end : ℕ) (f : First) → ShapedFirst f → P (snapshot_first end f).number
-  snapshot-first-in end (record_of mark c next) good =
-      pick_in (λ (k : Kept). P k.number) (eqb mark 0x4B53) (alone (eqb next end) c) (none 2) (alone-in (eqb next end) c good) (low 2 (omega arith))
-  snapshot-first-in end truncated good = low 1 (omega arith)
+  snapshot_first_in : (end : ℕ) (f : First) → ShapedFirst f → P (snapshot_first end f).number
+  snapshot_first_in end (record_of mark c next) good =
+      pick_in (λ (k : Kept). P k.number) (eqb mark 0x4B53) (alone (eqb next end) c) (none 2) (alone_in (eqb next end) c good) (low 2 (omega arith))
+  snapshot_first_in end truncated good = low 1 (omega arith)
 
-  state-in : (s : List ℕ) → P (state_in s).number
+  state_in_lem : (s : List ℕ) → P (state_in s).number
   unfolding state_in
-  state-in s = pick_in (λ (k : Kept). P k.number) (eqb (length s) 0) (none 0) _ (low 0 (omega arith)) (snapshot-first-in (length s) (first_of s) (first-shaped s))
+  state_in_lem s = pick_in (λ (k : Kept). P k.number) (eqb (length s) 0) (none 0) _ (low 0 (omega arith)) (snapshot_first_in (length s) (first_of s) (first-shaped s))
 
   kept_in_lem : (buf : List ℕ) (used : ℕ) → P (kept_in buf used).number
   unfolding kept_in
-  kept_in_lem buf used = pick_in (λ (k : Kept). P k.number) (leb used (length buf)) _ (none 1) (state-in (take used buf)) (low 1 (omega arith))
+  kept_in_lem buf used = pick_in (λ (k : Kept). P k.number) (leb used (length buf)) _ (none 1) (state_in_lem (take used buf)) (low 1 (omega arith))
 
   pub asked_in : (s : List ℕ) → P (asked s).number
   unfolding asked
   asked_in s =
       let Q : Answer → Type 0 = λ x. P x.number in
-      pick_in Q (eqb (state_in s).number 0) _ _ (pick_in Q (is_held (state_in s).holder) _ (refused 8 0 0) (low 0 (omega arith)) (low 8 (omega arith))) (state-in s)
+      pick_in Q (eqb (state_in s).number 0) _ _ (pick_in Q (is_held (state_in s).holder) _ (refused 8 0 0) (low 0 (omega arith)) (low 8 (omega arith))) (state_in_lem s)
 
   -- ---- with 41: saving, and the calls on a state in a buffer
   module _ (room : P 41) where
-    pub saved-in : (h : Holder) (buf : List ℕ) → P (saved h buf).0.number
+    pub saved_in : (h : Holder) (buf : List ℕ) → P (saved h buf).0.number
     unfolding saved
-    saved-in h buf =
+    saved_in h buf =
         let Q : Answer × List ℕ → Type 0 = λ r. P r.0.number in
         let whole = length (encoded h.state) in
         pick_in Q (eqb (holder_shape h) 0) _ _
         (pick_in Q (is_held h) _ (refused 8 0 0, buf)
         (pick_in Q (leb whole (length buf)) (refused 0 whole 0, over 0 (encoded h.state) buf) (refused 41 whole 0, buf) (low 0 (omega arith)) room)
         (low 8 (omega arith)))
-        (holder-shape-in P low high h)
+        (holder_shape_in P low high h)
 
     abbrev Leaves : Left → Type 0
     Leaves l = P l.answer.number
 
-    after-saving-in : (used : ℕ) (x : Answer) (r : Answer × List ℕ) → P x.number → P r.0.number → Leaves (after_saving used x r)
-    after-saving-in used x (y, buf) p q = pick_in Leaves (passes y) (record { answer = x; bytes = buf; used = y.a.low }) (record { answer = y; bytes = buf; used = used }) p q
+    after_saving_in : (used : ℕ) (x : Answer) (r : Answer × List ℕ) → P x.number → P r.0.number → Leaves (after_saving used x r)
+    after_saving_in used x (y, buf) p q = pick_in Leaves (passes y) (record { answer = x; bytes = buf; used = y.a.low }) (record { answer = y; bytes = buf; used = used }) p q
 
-    settled-in : (buf : List ℕ) (used : ℕ) (o : Offered) → Good o → Leaves (settled_in buf used o)
+    settled_in_lem : (buf : List ℕ) (used : ℕ) (o : Offered) → Good o → Leaves (settled_in buf used o)
     unfolding settled_in
-    settled-in buf used o p =
+    settled_in_lem buf used o p =
         pick_in Leaves (passes o.answer) (after_saving used o.answer (saved o.holder buf)) (untouched buf used o.answer)
-        (after-saving-in used o.answer (saved o.holder buf) p (saved-in o.holder buf)) p
+        (after_saving_in used o.answer (saved o.holder buf) p (saved_in o.holder buf)) p
 
-    on-state-in : (buf : List ℕ) (used : ℕ) (f : Holder → Offered) → ((h : Holder) → Good (f h)) → Leaves (on_state buf used f (kept_in buf used))
-    on-state-in buf used f p =
+    on_state_in : (buf : List ℕ) (used : ℕ) (f : Holder → Offered) → ((h : Holder) → Good (f h)) → Leaves (on_state buf used f (kept_in buf used))
+    on_state_in buf used f p =
         let k = kept_in buf used in
         pick_in Leaves (eqb k.number 0) (settled_in buf used (f k.holder)) (untouched buf used (refused k.number 0 0))
-        (settled-in buf used (f k.holder) (p k.holder)) (kept_in_lem buf used)
+        (settled_in_lem buf used (f k.holder) (p k.holder)) (kept_in_lem buf used)
 
-    pub offer-in : (buf : List ℕ) (used : ℕ) (s : List ℕ) → Leaves (offered_in buf used s)
+    pub offer_in : (buf : List ℕ) (used : ℕ) (s : List ℕ) → Leaves (offered_in buf used s)
     unfolding offered_in
-    offer-in buf used s = on-state-in buf used (λ (h : Holder). (received h s).offered) (λ h. received-in h s)
+    offer_in buf used s = on_state_in buf used (λ (h : Holder). (received h s).offered) (λ h. received_in h s)
 
-    pub offer-body-in : (buf : List ℕ) (used mark : ℕ) (body : List ℕ) → Leaves (body_offered_in buf used mark body)
+    pub offer_body_in : (buf : List ℕ) (used mark : ℕ) (body : List ℕ) → Leaves (body_offered_in buf used mark body)
     unfolding body_offered_in
-    offer-body-in buf used mark body = on-state-in buf used (λ (h : Holder). body_taken h mark body) (λ h. body-in h mark body)
+    offer_body_in buf used mark body = on_state_in buf used (λ (h : Holder). body_taken h mark body) (λ h. body_in h mark body)
 
-    pub fold-in : (buf : List ℕ) (used : ℕ) (s : List ℕ) → Leaves (folded_in buf used s)
+    pub fold_in : (buf : List ℕ) (used : ℕ) (s : List ℕ) → Leaves (folded_in buf used s)
     unfolding folded_in
-    fold-in buf used s = on-state-in buf used (λ (h : Holder). folded_first h (first_of s)) (λ h. first-folded-in h (first_of s) (first-shaped s))
+    fold_in buf used s = on_state_in buf used (λ (h : Holder). folded_first h (first_of s)) (λ h. first_folded_in h (first_of s) (first-shaped s))
 
-    pub fold-body-in : (buf : List ℕ) (used mark : ℕ) (body : List ℕ) → Leaves (body_folded_in buf used mark body)
+    pub fold_body_in : (buf : List ℕ) (used mark : ℕ) (body : List ℕ) → Leaves (body_folded_in buf used mark body)
     unfolding body_folded_in
-    fold-body-in buf used mark body = on-state-in buf used (λ (h : Holder). body_folded h mark body) (λ h. body-folded-in h mark body)
+    fold_body_in buf used mark body = on_state_in buf used (λ (h : Holder). body_folded h mark body) (λ h. body_folded_in_lem h mark body)

@@ -18,11 +18,11 @@ pick_in P false x y p q = q
 
 pub then_in : (P : Answer → Type 0) (x : Answer) (xs : List Answer) → P x → (passes x ≡ true → P (first_refusal xs)) → P (first_refusal (x ∷ xs))
 unfolding first_refusal
-then_in P x xs p q = by-test (passes x) q
+then_in P x xs p q = by_test (passes x) q
   where
-    by-test : (t : Bool) → (t ≡ true → P (first_refusal xs)) → P (pick t (first_refusal xs) x)
-    by-test true f = f refl
-    by-test false f = p
+    by_test : (t : Bool) → (t ≡ true → P (first_refusal xs)) → P (pick t (first_refusal xs) x)
+    by_test true f = f refl
+    by_test false f = p
 
 pub first_in : (P : Answer → Type 0) (xs : List Answer) → P (first_refusal []) → Each P xs → P (first_refusal xs)
 first_in P [] z e = z

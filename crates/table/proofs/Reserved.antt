@@ -24,7 +24,7 @@ use Rattle.state.specs.State.{is_held, holding}
 use Rattle.shape.specs.Event.{shape_as, event_shape}
 use Rattle.shape.specs.State.{holder_shape}
 use Rattle.shape.proofs.Laws.{good_prefix}
-use Rattle.reserved.proofs.Laws.{without-29}
+use Rattle.reserved.proofs.Laws.{without_29}
 use Rattle.ingest.specs.Judgement.{on_nothing, on_state, judgement, answer_to, next_state, settled, offered}
 use Rattle.lent_state.specs.Ingested.{ingested}
 use Rattle.fold.specs.Fold.{folded}
@@ -36,7 +36,7 @@ use Rattle.record_log.proofs.Steps.{records_shaped}
 use Rattle.in_place.specs.Calls.{offered_in, body_offered_in, folded_in, body_folded_in, asked}
 use Rattle.table.specs.Table.{Never29}
 use Rattle.table.specs.Without29.{on_nothing_without29, offered_without29}
-use Rattle.table.proofs.Entries.{offered-in, ingested-in, folded-in, received-in, answers-in, asked_in, saved-in, offer-in, offer-body-in, fold-in, fold-body-in}
+use Rattle.table.proofs.Entries.{offered_in_lem, ingested_in, folded_in_lem, received_in, answers_in, asked_in, saved_in, offer_in, offer_body_in, fold_in, fold_body_in}
 
 abbrev Not29 : ℕ → Type 0
 Not29 n = Never29 (refused n 0 0)
@@ -52,44 +52,44 @@ room e = omega (arith, e)
 
 -- ---- structs
 pub no_event_gets_29 : (h : Holder) (e : Event) → Never29 (offered h e).answer
-no_event_gets_29 = offered-in Not29 below above
+no_event_gets_29 = offered_in_lem Not29 below above
 
 pub no_state_gets_29 : (s : KeyState) (e : Event) → Never29 (ingested s e).answer
-no_state_gets_29 = ingested-in Not29 below above
+no_state_gets_29 = ingested_in Not29 below above
 
 -- ---- bytes
 pub no_record_gets_29 : (h : Holder) (s : List ℕ) → Never29 (received h s).offered.answer
-no_record_gets_29 = received-in Not29 below above
+no_record_gets_29 = received_in Not29 below above
 
 pub no_log_gets_29 : (h : Holder) (s : List ℕ) → Each Never29 (answers h (records_of s))
-no_log_gets_29 h s = answers-in Not29 below above h (records_of s) (records_shaped (length s) s)
+no_log_gets_29 h s = answers_in Not29 below above h (records_of s) (records_shaped (length s) s)
 
 -- ---- the device's calls
 pub no_call_gets_29 : (buf : List ℕ) (used : ℕ) (s : List ℕ) → Never29 (offered_in buf used s).answer
-no_call_gets_29 = offer-in Not29 below above room
+no_call_gets_29 = offer_in Not29 below above room
 
 pub no_body_call_gets_29 : (buf : List ℕ) (used mark : ℕ) (body : List ℕ) → Never29 (body_offered_in buf used mark body).answer
-no_body_call_gets_29 = offer-body-in Not29 below above room
+no_body_call_gets_29 = offer_body_in Not29 below above room
 
 -- ---- what is not the checked path
 pub no_fold_gets_29 : (h : Holder) (e : Event) → Never29 (folded h e).answer
-no_fold_gets_29 = folded-in Not29 below above
+no_fold_gets_29 = folded_in_lem Not29 below above
 
 pub no_fold_call_gets_29 : (buf : List ℕ) (used : ℕ) (s : List ℕ) → Never29 (folded_in buf used s).answer
-no_fold_call_gets_29 = fold-in Not29 below above room
+no_fold_call_gets_29 = fold_in Not29 below above room
 
 pub no_fold_body_gets_29 : (buf : List ℕ) (used mark : ℕ) (body : List ℕ) → Never29 (body_folded_in buf used mark body).answer
-no_fold_body_gets_29 = fold-body-in Not29 below above room
+no_fold_body_gets_29 = fold_body_in Not29 below above room
 
 pub no_asking_gets_29 : (s : List ℕ) → Never29 (asked s)
 no_asking_gets_29 = asked_in Not29 below above
 
 pub no_saving_gets_29 : (h : Holder) (buf : List ℕ) → Never29 (saved h buf).0
-no_saving_gets_29 = saved-in Not29 below above room
+no_saving_gets_29 = saved_in Not29 below above room
 
 -- ---- removing the check
 nothing_without : (k : Ilk) (e : Event) → shape_as k e ≡ 0 → on_nothing k e ≡ on_nothing_without29 k e
-nothing_without Inception e z = without-29 e.head e.body e.anchors _ _ (good_prefix e z)
+nothing_without Inception e z = without_29 e.head e.body e.anchors _ _ (good_prefix e z)
 nothing_without Rotation e z = refl
 nothing_without Interaction e z = refl
 nothing_without DelegatedInception e z = refl

@@ -22,7 +22,7 @@ use Rattle.record_log.specs.Log.{records_of, answers}
 use Rattle.record_log.proofs.Steps.{records_shaped}
 use Rattle.in_place.specs.Calls.{offered_in, body_offered_in, folded_in, body_folded_in, asked}
 use Rattle.table.specs.Table.{InTable, InTableOfSaving}
-use Rattle.table.proofs.Entries.{offered-in, folded-in, received-in, answers-in, asked_in, saved-in, offer-in, offer-body-in, fold-in, fold-body-in}
+use Rattle.table.proofs.Entries.{offered_in_lem, folded_in_lem, received_in, answers_in, asked_in, saved_in, offer_in, offer_body_in, fold_in, fold_body_in}
 
 abbrev Numbered : ℕ → Type 0
 Numbered n = InTable (refused n 0 0)
@@ -34,16 +34,16 @@ high : (n : ℕ) → 30 ≤ n → n ≤ 38 → Numbered n
 high n p q = omega arith
 
 pub event_in_table : (h : Holder) (e : Event) → InTable (offered h e).answer
-event_in_table = offered-in Numbered low high
+event_in_table = offered_in_lem Numbered low high
 
 pub fold_in_table : (h : Holder) (e : Event) → InTable (folded h e).answer
-fold_in_table = folded-in Numbered low high
+fold_in_table = folded_in_lem Numbered low high
 
 pub in_table : (h : Holder) (s : List ℕ) → InTable (received h s).offered.answer
-in_table = received-in Numbered low high
+in_table = received_in Numbered low high
 
 pub log_in_table : (h : Holder) (s : List ℕ) → Each InTable (answers h (records_of s))
-log_in_table h s = answers-in Numbered low high h (records_of s) (records_shaped (length s) s)
+log_in_table h s = answers_in Numbered low high h (records_of s) (records_shaped (length s) s)
 
 -- ---- with 41
 abbrev Saving : ℕ → Type 0
@@ -57,29 +57,29 @@ high_saving n p q = inl (high n p q)
 
 -- saving: 0, 3, 4, 8 or 41
 pub saving_in_table : (h : Holder) (buf : List ℕ) → InTableOfSaving (saved h buf).0
-saving_in_table = saved-in Saving low_saving high_saving (inr refl)
+saving_in_table = saved_in Saving low_saving high_saving (inr refl)
 
 pub saved_in_table : (h : Holder) (buf : List ℕ) → (saved h buf).0.number ≤ 41
-saved_in_table h buf = ⊎_elim (λ (p : InTable (saved h buf).0). to-41 _ p) (λ (p : (saved h buf).0.number ≡ 41). just-41 _ p) (saving_in_table h buf)
+saved_in_table h buf = ⊎_elim (λ (p : InTable (saved h buf).0). to_41 _ p) (λ (p : (saved h buf).0.number ≡ 41). just_41 _ p) (saving_in_table h buf)
   where
-    to-41 : (n : ℕ) → n ≤ 38 → n ≤ 41
-    to-41 n p = omega arith
+    to_41 : (n : ℕ) → n ≤ 38 → n ≤ 41
+    to_41 n p = omega arith
 
-    just-41 : (n : ℕ) → n ≡ 41 → n ≤ 41
-    just-41 n p = omega arith
+    just_41 : (n : ℕ) → n ≡ 41 → n ≤ 41
+    just_41 n p = omega arith
 
 -- keystate_offer, keystate_fold and keystate_ask answer these numbers; the other two take a record as mark and body
 pub offer_in_table : (buf : List ℕ) (used : ℕ) (s : List ℕ) → InTableOfSaving (offered_in buf used s).answer
-offer_in_table = offer-in Saving low_saving high_saving (inr refl)
+offer_in_table = offer_in Saving low_saving high_saving (inr refl)
 
 pub offer_body_in_table : (buf : List ℕ) (used mark : ℕ) (body : List ℕ) → InTableOfSaving (body_offered_in buf used mark body).answer
-offer_body_in_table = offer-body-in Saving low_saving high_saving (inr refl)
+offer_body_in_table = offer_body_in Saving low_saving high_saving (inr refl)
 
 pub fold_call_in_table : (buf : List ℕ) (used : ℕ) (s : List ℕ) → InTableOfSaving (folded_in buf used s).answer
-fold_call_in_table = fold-in Saving low_saving high_saving (inr refl)
+fold_call_in_table = fold_in Saving low_saving high_saving (inr refl)
 
 pub fold_body_in_table : (buf : List ℕ) (used mark : ℕ) (body : List ℕ) → InTableOfSaving (body_folded_in buf used mark body).answer
-fold_body_in_table = fold-body-in Saving low_saving high_saving (inr refl)
+fold_body_in_table = fold_body_in Saving low_saving high_saving (inr refl)
 
 pub ask_in_table : (s : List ℕ) → InTable (asked s)
 ask_in_table = asked_in Numbered low high

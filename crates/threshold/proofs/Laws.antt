@@ -62,13 +62,13 @@ clean_form t keys =
     (clean_pick (any (eqb 0) (sizes_of t)) _ _ (clean_if true (refused 26 0 0) refl) (clean_most (weights_in t) keys)))
 
 module _ (t : Threshold) (keys shape : ℕ) (is : shape ≡ shape_of t) where
-  pub shape-bad : (shape ≡ 0 → ⊥) → refused shape 0 0 ≡ check_well_formed t keys
+  pub shape_bad : (shape ≡ 0 → ⊥) → refused shape 0 0 ≡ check_well_formed t keys
   unfolding check_well_formed
-  shape-bad ne = rw (← is) (sym (stopped (refused shape 0 0) (well_formed t keys ∷ []) ne))
+  shape_bad ne = rw (← is) (sym (stopped (refused shape 0 0) (well_formed t keys ∷ []) ne))
 
-  pub shape-good : shape ≡ 0 → well_formed t keys ≡ check_well_formed t keys
+  pub shape_good : shape ≡ 0 → well_formed t keys ≡ check_well_formed t keys
   unfolding check_well_formed
-  shape-good e = rw (← is) (last (well_formed t keys) (well_formed t keys) (clean_form t keys) refl ∙ sym (passed (refused shape 0 0) (well_formed t keys ∷ []) e))
+  shape_good e = rw (← is) (last (well_formed t keys) (well_formed t keys) (clean_form t keys) refl ∙ sym (passed (refused shape 0 0) (well_formed t keys ∷ []) e))
 
 -- ---- the sum of a clause: what is left of its run
 pub clause_next : (signed : ℕ → Bool) (s : Sum) (ws : List Weight) (k left : ℕ) (w : Weight) → drop k ws ≡ w ∷ drop (k + 1) ws → (left ≡ 0 → ⊥)
@@ -78,39 +78,39 @@ clause_next signed s ws k zero w e ne = absurd (ne refl)
 clause_next signed s ws k (suc left) w e ne = let l : suc left - 1 ≡ left = omega arith in rw (l, e)
 
 module _ (signed : ℕ → Bool) (s : Sum) (ws : List Weight) (k left : ℕ) where
-  pub clause-none : left ≡ 0 → s ≡ sum_from signed k s (take left (drop k ws))
+  pub clause_none : left ≡ 0 → s ≡ sum_from signed k s (take left (drop k ws))
   unfolding sum_from
-  clause-none e = rw e
+  clause_none e = rw e
 
-  pub clause-end : length ws ≤ k → s ≡ sum_from signed k s (take left (drop k ws))
+  pub clause_end : length ws ≤ k → s ≡ sum_from signed k s (take left (drop k ws))
   unfolding sum_from
-  clause-end h = rw (drop_of_length-le ws h, take-nil left)
+  clause_end h = rw (drop_of_length-le ws h, take-nil left)
 
 -- ---- clause after clause: a run ends at the array's end at the latest
 abbrev pub cut : ℕ → ℕ
 cut end = pick (ltb end 16) end 16
 
 pub cut-16 : (end : ℕ) → cut end ≤ 16
-cut-16 end = by-test (ltb end 16) refl
+cut-16 end = by_test (ltb end 16) refl
   where
-    by-test : (b : Bool) → ltb end 16 ≡ b → cut end ≤ 16
-    by-test true e = let l = ltb-true end 16 e in rw e (omega arith)
-    by-test false e = rw e (omega arith)
+    by_test : (b : Bool) → ltb end 16 ≡ b → cut end ≤ 16
+    by_test true e = let l = ltb-true end 16 e in rw e (omega arith)
+    by_test false e = rw e (omega arith)
 
 module _ (ws : List Weight) (base size : ℕ) (h : length ws ≡ 16) (g : base ≤ 16) where
   run_end : base + length (take size (drop base ws)) ≡ cut (base + size)
-  run_end = by-test (ltb (base + size) 16) refl
+  run_end = by_test (ltb (base + size) 16) refl
     where
-      by-test : (b : Bool) → ltb (base + size) 16 ≡ b → base + length (take size (drop base ws)) ≡ cut (base + size)
-      by-test true e = let l = ltb-true (base + size) 16 e in rw e (simp (length-take, length-drop) (omega arith))
-      by-test false e = let l = ltb-false (base + size) 16 e in rw e (simp (length-take, length-drop) (omega arith))
+      by_test : (b : Bool) → ltb (base + size) 16 ≡ b → base + length (take size (drop base ws)) ≡ cut (base + size)
+      by_test true e = let l = ltb-true (base + size) 16 e in rw e (simp (length-take, length-drop) (omega arith))
+      by_test false e = let l = ltb-false (base + size) 16 e in rw e (simp (length-take, length-drop) (omega arith))
 
-  run-rest : drop size (drop base ws) ≡ drop (cut (base + size)) ws
-  run-rest = by-test (ltb (base + size) 16) refl
+  run_rest : drop size (drop base ws) ≡ drop (cut (base + size)) ws
+  run_rest = by_test (ltb (base + size) 16) refl
     where
-      by-test : (b : Bool) → ltb (base + size) 16 ≡ b → drop size (drop base ws) ≡ drop (cut (base + size)) ws
-      by-test true e = rw e (drop-drop size base ws)
-      by-test false e =
+      by_test : (b : Bool) → ltb (base + size) 16 ≡ b → drop size (drop base ws) ≡ drop (cut (base + size)) ws
+      by_test true e = rw e (drop-drop size base ws)
+      by_test false e =
           let l = ltb-false (base + size) 16 e in
           rw (e, drop-drop size base ws, drop_of_length-le ws {i = base + size} (omega arith), drop_of_length-le ws {i = 16} (omega arith))
 
@@ -121,7 +121,7 @@ module _ (signed : ℕ → Bool) (xs : List ℕ) (ws : List Weight) (i base size
   pub reached : length ws ≡ 16 → base ≤ 16 → reaches_one (sum_from signed base no_sum (take size (drop base ws))) ≡ true
       → left (i + 1) (cut (base + size)) ≡ left i base
   unfolding first_from clauses_met runs
-  reached h g r = rw (e, r, run_end ws base size h g, run-rest ws base size h g)
+  reached h g r = rw (e, r, run_end ws base size h g, run_rest ws base size h g)
 
   pub short : reaches_one (sum_from signed base no_sum (take size (drop base ws))) ≡ false → Short (i + 1) ≡ left i base
   unfolding first_from clauses_met runs
@@ -139,14 +139,14 @@ module _ (f g : ℕ → Bool) (same : (k : ℕ) → k < 16 → f k ≡ g k) wher
   sum_same [] k s h = refl
   sum_same (w ∷ ws) k s h = rw (same k (omega arith)) (sum_same ws (k + 1) (weigh (g k) s w) (omega arith))
 
-  clauses-same : (ns : List ℕ) (ws : List Weight) (base : ℕ) → base + length ws ≤ 16 → clauses_met f base (runs ns ws) ≡ clauses_met g base (runs ns ws)
+  clauses_same : (ns : List ℕ) (ws : List Weight) (base : ℕ) → base + length ws ≤ 16 → clauses_met f base (runs ns ws) ≡ clauses_met g base (runs ns ws)
   unfolding clauses_met runs
-  clauses-same [] ws base h = refl
-  clauses-same (n ∷ ns) ws base h =
+  clauses_same [] ws base h = refl
+  clauses_same (n ∷ ns) ws base h =
       let a : base + length (take n ws) ≤ 16 = simp length-take (omega arith) in
       let b : base + length (take n ws) + length (drop n ws) ≤ 16 = simp (length-take, length-drop) (omega arith) in
-      rw (sum_same (take n ws) base no_sum a, clauses-same ns (drop n ws) (base + length (take n ws)) b)
+      rw (sum_same (take n ws) base no_sum a, clauses_same ns (drop n ws) (base + length (take n ws)) b)
 
   pub judged-same : (t : Threshold) (n : ℕ) → length t.weights ≤ 16 → judged t n f ≡ judged t n g
   unfolding judged
-  judged-same t n h = rw (clauses-same (take t.clauses t.sizes) t.weights 0 (omega arith))
+  judged-same t n h = rw (clauses_same (take t.clauses t.sizes) t.weights 0 (omega arith))

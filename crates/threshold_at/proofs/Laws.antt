@@ -27,11 +27,11 @@ module _ (which required n k : ℕ) (e : n ≡ k) where
 
 pub simple_is : (which : ℕ) (t : Threshold) (ps : List ℕ) → t.tag ≡ 0 → simple_quorum which t.simple (length ps) ≡ quorum which t ps
 unfolding quorum judged
-simple_is which t ps z = rw (eq-eqb t.tag 0 z) (by-test (leb t.simple (length ps)))
+simple_is which t ps z = rw (eq-eqb t.tag 0 z) (by_test (leb t.simple (length ps)))
   where
-    by-test : (b : Bool) → let j : Judgement = pick b Met (Short 0) in pick b accepted (refused which (length ps) 0) ≡ pick (is_met j) accepted (refused which (length ps) (clause_named j))
-    by-test true = refl
-    by-test false = refl
+    by_test : (b : Bool) → let j : Judgement = pick b Met (Short 0) in pick b accepted (refused which (length ps) 0) ≡ pick (is_met j) accepted (refused which (length ps) (clause_named j))
+    by_test true = refl
+    by_test false = refl
 
 pub form-simple : (t : Threshold) (keys : ℕ) → t.tag ≡ 0 → simple_form t.simple keys ≡ well_formed t keys
 unfolding well_formed

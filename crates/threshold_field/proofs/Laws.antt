@@ -3,7 +3,7 @@
 --     total-..      what a loop over the sizes has read, and has yet to read
 --     pass-..       bytes that are stepped over: where there is room, and where there is not
 --     fill-..       an array of 16 before, while and after a loop fills it
---     threshold-values   scanning a threshold and copying it after is reading it
+--     threshold_values   scanning a threshold and copying it after is reading it
 use mathlib.Core.Path.{◌≡◌, refl, sym, ap, ◌∙◌}
 use mathlib.Core.Bool.{Bool, true, false}
 use mathlib.Core.List.{List, []}
@@ -18,7 +18,7 @@ use Rattle.threshold.specs.declared.Threshold.{Threshold}
 use Rattle.format.specs.Parse.{Parse, got, bad, bind, byte_at, be_from, num_at, many_at}
 use Rattle.format.specs.Fields.{simple, weighted, sizes_at, total, weight_at, clauses_at, threshold_as, threshold_at}
 use Rattle.cursor.specs.Spans.{mapped, list_of, many_of}
-use Rattle.cursor.proofs.Laws.{num-got, num-short, list-none, list_length, many-over, many-short, many-got, as_is}
+use Rattle.cursor.proofs.Laws.{num_got, num_short, list-none, list_length, many_over, many_short, many_got, as_is}
 use Rattle.threshold_field.specs.declared.Marks.{Marks}
 use Rattle.threshold_field.specs.ThresholdField.{total_at, pass_at, weighted_marks, weighted_at, marks_as, marks_at, byte_of, weight_of, sizes_of, weights_of, threshold_of}
 
@@ -27,30 +27,30 @@ module _ (s : List ℕ) (n i t p : ℕ) (x : Parse ℕ) (e : x ≡ total_at s (n
   left : i < n → n - i ≡ suc (n - (i + 1))
   left h = omega arith
 
-  pub total-more : {z q : ℕ} → i < n → byte_at s p ≡ got z q → t + z ≤ 16 → x ≡ total_at s (n - (i + 1)) (t + z) q
+  pub total_more : {z q : ℕ} → i < n → byte_at s p ≡ got z q → t + z ≤ 16 → x ≡ total_at s (n - (i + 1)) (t + z) q
   unfolding total_at
-  total-more {z} {q} h b k = e ∙ rw (left h) (rw (b, le-leb (t + z) 16 k))
+  total_more {z} {q} h b k = e ∙ rw (left h) (rw (b, le-leb (t + z) 16 k))
 
-  pub total-many : {z q : ℕ} → i < n → byte_at s p ≡ got z q → 16 < t + z → x ≡ bad 4
+  pub total_many : {z q : ℕ} → i < n → byte_at s p ≡ got z q → 16 < t + z → x ≡ bad 4
   unfolding total_at
-  total-many {z} {q} h b k = e ∙ rw (left h) (rw (b, lt-leb (t + z) 16 k))
+  total_many {z} {q} h b k = e ∙ rw (left h) (rw (b, lt-leb (t + z) 16 k))
 
-  pub total-stop : {r : ℕ} → i < n → byte_at s p ≡ bad r → x ≡ bad r
+  pub total_stop : {r : ℕ} → i < n → byte_at s p ≡ bad r → x ≡ bad r
   unfolding total_at
-  total-stop h b = e ∙ rw (left h) (rw b)
+  total_stop h b = e ∙ rw (left h) (rw b)
 
   pub total-end : n ≤ i → x ≡ got t p
   unfolding total_at
   total-end h = let m : n - i ≡ 0 = omega arith in e ∙ rw m
 
 module _ {A : Type 0} (a : A) (k : ℕ) (s : List ℕ) (at : ℕ) where
-  pub pass-got : at + k ≤ length s → pass_at a k s at ≡ got a (at + k)
+  pub pass_got : at + k ≤ length s → pass_at a k s at ≡ got a (at + k)
   unfolding pass_at
-  pass-got h = simp (le-leb _ _ h)
+  pass_got h = simp (le-leb _ _ h)
 
-  pub pass-short : length s < at + k → pass_at a k s at ≡ bad 3
+  pub pass_short : length s < at + k → pass_at a k s at ≡ bad 3
   unfolding pass_at
-  pass-short h = simp (lt-leb _ _ h)
+  pass_short h = simp (lt-leb _ _ h)
 
 -- ---- a tag above 1
 pub marks_other : (tag : ℕ) (s : List ℕ) (at : ℕ) → (tag ≡ 0 → ⊥) → (tag ≡ 1 → ⊥) → marks_as tag s at ≡ bad 3
@@ -65,14 +65,14 @@ module _ {A : Type 0} (f : ℕ → A) (w : ℕ) (z : A) (s : List ℕ) (n p : �
   fill_none = rw (list-none f w p)
 
   pub fill-over : 16 < n → replicate 16 z ≡ padded 16 z (many_of f w 16 s n p)
-  fill-over h = rw (many-over f w 16 s n p h)
+  fill-over h = rw (many_over f w 16 s n p h)
 
   pub fill-short : n ≤ 16 → length s < p + n * w → replicate 16 z ≡ padded 16 z (many_of f w 16 s n p)
-  fill-short h k = rw (many-short f w 16 s n p h k)
+  fill-short h k = rw (many_short f w 16 s n p h k)
 
   pub fill-all : (i : ℕ) (l : List A) → n ≤ 16 → p + n * w ≤ length s → i ≡ n → l ≡ padded 16 z (list_of f w i p)
       → l ≡ padded 16 z (many_of f w 16 s n p)
-  fill-all i l h k e r = rw (many-got f w 16 s n p h k, ← e) r
+  fill-all i l h k e r = rw (many_got f w 16 s n p h k, ← e) r
 
 -- ---- a weight at a place
 made : {a b c d : ℕ} → a ≡ c → b ≡ d → ◌≡◌ {A = Weight} (record { num = a; den = b }) (record { num = c; den = d })
@@ -81,14 +81,14 @@ made e f = cc
 module _ (s : List ℕ) (at : ℕ) (h : at + 8 ≤ length s) where
   number_is : {v q : ℕ} → num_at 8 s at ≡ got v q → (v ≡ be_from 0 (take 8 (drop at s))) × (q ≡ at + 8)
   number_is {v} {q} e =
-      let g : got (be_from 0 (take 8 (drop at s))) (at + 8) ≡ got v q = sym (num-got 8 s at h) ∙ e in
+      let g : got (be_from 0 (take 8 (drop at s))) (at + 8) ≡ got v q = sym (num_got 8 s at h) ∙ e in
       let a : v ≡ be_from 0 (take 8 (drop at s)) = cc in
       let b : q ≡ at + 8 = cc in
       (a, b)
 
-  pub number-there : {A : Type 0} → num_at 8 s at ≡ bad 3 → A
-  number-there e =
-      let g : got (be_from 0 (take 8 (drop at s))) (at + 8) ≡ bad 3 = sym (num-got 8 s at h) ∙ e in
+  pub number_there : {A : Type 0} → num_at 8 s at ≡ bad 3 → A
+  number_there e =
+      let g : got (be_from 0 (take 8 (drop at s))) (at + 8) ≡ bad 3 = sym (num_got 8 s at h) ∙ e in
       let z : ◌≡◌ {A = ℕ} 0 1 = cc in
       absurd (omega arith)
 
@@ -113,46 +113,46 @@ marks_by s at e k f = rw (e, f)
 
 -- ---- by values: weights
 module _ (s : List ℕ) where
-  weight-had : (p : ℕ) → p + 16 ≤ length s → weight_at s p ≡ got (weight_of s p) (p + 16)
+  weight_had : (p : ℕ) → p + 16 ≤ length s → weight_at s p ≡ got (weight_of s p) (p + 16)
   unfolding weight_at weight_of
-  weight-had p h =
+  weight_had p h =
       let a : p + 8 ≤ length s = omega arith in
       let b : p + 8 + 8 ≤ length s = omega arith in
       let e : p + 8 + 8 ≡ p + 16 = omega arith in
-      rw (num-got 8 s p a, num-got 8 s (p + 8) b, e)
+      rw (num_got 8 s p a, num_got 8 s (p + 8) b, e)
 
-  weight-short : (p : ℕ) → length s < p + 16 → weight_at s p ≡ bad 3
+  weight_short : (p : ℕ) → length s < p + 16 → weight_at s p ≡ bad 3
   unfolding weight_at
-  weight-short p h = by-room (leb (p + 8) (length s)) refl
+  weight_short p h = by_room (leb (p + 8) (length s)) refl
     where
-      by-room : (b : Bool) → leb (p + 8) (length s) ≡ b → weight_at s p ≡ bad 3
-      by-room true e =
+      by_room : (b : Bool) → leb (p + 8) (length s) ≡ b → weight_at s p ≡ bad 3
+      by_room true e =
           let a : p + 8 ≤ length s = leb-true (p + 8) (length s) e in
           let b : length s < p + 8 + 8 = omega arith in
-          rw (num-got 8 s p a, num-short 8 s (p + 8) b)
-      by-room false e = rw (num-short 8 s p (leb-false (p + 8) (length s) e))
+          rw (num_got 8 s p a, num_short 8 s (p + 8) b)
+      by_room false e = rw (num_short 8 s p (leb-false (p + 8) (length s) e))
 
-  weights-had : (n p : ℕ) → p + n * 16 ≤ length s → many_at (weight_at s) n p ≡ got (list_of (weight_of s) 16 n p) (p + n * 16)
+  weights_had : (n p : ℕ) → p + n * 16 ≤ length s → many_at (weight_at s) n p ≡ got (list_of (weight_of s) 16 n p) (p + n * 16)
   unfolding many_at list_of
-  weights-had zero p h = let e : p + 0 * 16 ≡ p = omega arith in rw e
-  weights-had (suc n) p h =
+  weights_had zero p h = let e : p + 0 * 16 ≡ p = omega arith in rw e
+  weights_had (suc n) p h =
       let a : p + 16 ≤ length s = omega arith in
       let b : p + 16 + n * 16 ≤ length s = omega arith in
       let e : p + 16 + n * 16 ≡ p + suc n * 16 = omega arith in
-      rw (weight-had p a, weights-had n (p + 16) b, e)
+      rw (weight_had p a, weights_had n (p + 16) b, e)
 
-  weights-short : (n p : ℕ) → p ≤ length s → length s < p + n * 16 → many_at (weight_at s) n p ≡ bad 3
+  weights_short : (n p : ℕ) → p ≤ length s → length s < p + n * 16 → many_at (weight_at s) n p ≡ bad 3
   unfolding many_at
-  weights-short zero p h k = absurd (omega arith)
-  weights-short (suc n) p h k = by-room (leb (p + 16) (length s)) refl (weights-short n (p + 16))
+  weights_short zero p h k = absurd (omega arith)
+  weights_short (suc n) p h k = by_room (leb (p + 16) (length s)) refl (weights_short n (p + 16))
     where
-      by-room : (b : Bool) → leb (p + 16) (length s) ≡ b → (p + 16 ≤ length s → length s < p + 16 + n * 16 → many_at (weight_at s) n (p + 16) ≡ bad 3)
+      by_room : (b : Bool) → leb (p + 16) (length s) ≡ b → (p + 16 ≤ length s → length s < p + 16 + n * 16 → many_at (weight_at s) n (p + 16) ≡ bad 3)
           → many_at (weight_at s) (suc n) p ≡ bad 3
-      by-room true e rest =
+      by_room true e rest =
           let a : p + 16 ≤ length s = leb-true (p + 16) (length s) e in
           let b : length s < p + 16 + n * 16 = omega arith in
-          rw (weight-had p a, rest a b)
-      by-room false e rest = rw (weight-short p (leb-false (p + 16) (length s) e))
+          rw (weight_had p a, rest a b)
+      by_room false e rest = rw (weight_short p (leb-false (p + 16) (length s) e))
 
   -- sizes: by their total and by their values, both had or both refused
   data Sized (n sum p : ℕ) : Type 0 where
@@ -160,10 +160,10 @@ module _ (s : List ℕ) where
         → sizes_at s n sum p ≡ got (list_of (byte_of s) 1 n p) (p + n) → Sized n sum p
     stopped : (r : ℕ) → total_at s n sum p ≡ bad r → sizes_at s n sum p ≡ bad r → Sized n sum p
 
-  sizes-values : (n sum p : ℕ) → p ≤ length s → sum ≤ 16 → Sized n sum p
+  sizes_values : (n sum p : ℕ) → p ≤ length s → sum ≤ 16 → Sized n sum p
   unfolding total_at sizes_at byte_at list_of total
-  sizes-values zero sum p h k = let e : p + 0 ≡ p = omega arith in sized sum (omega arith) k (omega arith) (rw e) (rw e)
-  sizes-values (suc n) sum p h k = by-room (ltb p (length s)) refl (sizes-values n (sum + get_or s p 0) (p + 1))
+  sizes_values zero sum p h k = let e : p + 0 ≡ p = omega arith in sized sum (omega arith) k (omega arith) (rw e) (rw e)
+  sizes_values (suc n) sum p h k = by_room (ltb p (length s)) refl (sizes_values n (sum + get_or s p 0) (p + 1))
     where
       more : ltb p (length s) ≡ true → leb (sum + get_or s p 0) 16 ≡ true → Sized n (sum + get_or s p 0) (p + 1) → Sized (suc n) sum p
       more e f (sized t a i j u v) =
@@ -171,20 +171,20 @@ module _ (s : List ℕ) where
           sized t (omega arith) i (omega arith) (rw (e, f, u, d)) (rw (e, f, v, d))
       more e f (stopped r u v) = stopped r (rw (e, f, u)) (rw (e, f, v))
 
-      by-sum : ltb p (length s) ≡ true → (b : Bool) → leb (sum + get_or s p 0) 16 ≡ b → (sum + get_or s p 0 ≤ 16 → Sized n (sum + get_or s p 0) (p + 1)) → Sized (suc n) sum p
-      by-sum e true f rest = more e f (rest (leb-true (sum + get_or s p 0) 16 f))
-      by-sum e false f rest = stopped 4 (rw (e, f)) (rw (e, f))
+      by_sum : ltb p (length s) ≡ true → (b : Bool) → leb (sum + get_or s p 0) 16 ≡ b → (sum + get_or s p 0 ≤ 16 → Sized n (sum + get_or s p 0) (p + 1)) → Sized (suc n) sum p
+      by_sum e true f rest = more e f (rest (leb-true (sum + get_or s p 0) 16 f))
+      by_sum e false f rest = stopped 4 (rw (e, f)) (rw (e, f))
 
-      by-room : (b : Bool) → ltb p (length s) ≡ b → (p + 1 ≤ length s → sum + get_or s p 0 ≤ 16 → Sized n (sum + get_or s p 0) (p + 1)) → Sized (suc n) sum p
-      by-room true e rest =
+      by_room : (b : Bool) → ltb p (length s) ≡ b → (p + 1 ≤ length s → sum + get_or s p 0 ≤ 16 → Sized n (sum + get_or s p 0) (p + 1)) → Sized (suc n) sum p
+      by_room true e rest =
           let l : p + 1 ≤ length s = omega (arith, ltb-true p (length s) e) in
-          by-sum e (leb (sum + get_or s p 0) 16) refl (rest l)
-      by-room false e rest = stopped 3 (rw e) (rw e)
+          by_sum e (leb (sum + get_or s p 0) 16) refl (rest l)
+      by_room false e rest = stopped 3 (rw e) (rw e)
 
   -- the weighted threshold whose parts stand at marks that were had
   weighted_is : (n p t w : ℕ) → n ≤ 16 → p + n * 1 ≤ length s → t ≤ 16 → w + t * 16 ≤ length s
       → threshold_of s (weighted_marks n p t w) ≡ weighted (list_of (byte_of s) 1 n p) (list_of (weight_of s) 16 t w)
-  weighted_is n p t w a b c d = rw (many-got (byte_of s) 1 16 s n p a b, many-got (weight_of s) 16 16 s t w c d, list_length (byte_of s) 1 n p)
+  weighted_is n p t w a b c d = rw (many_got (byte_of s) 1 16 s n p a b, many_got (weight_of s) 16 16 s t w c d, list_length (byte_of s) 1 n p)
 
   abbrev clauses : ℕ → ℕ → Parse Threshold
   clauses n p = bind (sizes_at s n 0 p) (λ sizes q. bind (many_at (weight_at s) (total sizes) q) (λ weights r. got (weighted sizes weights) r))
@@ -192,51 +192,51 @@ module _ (s : List ℕ) where
   abbrev scanned : ℕ → ℕ → Parse Marks
   scanned n p = bind (total_at s n 0 p) (λ t w. pass_at (weighted_marks n p t w) (t * 16) s w)
 
-  clauses-values : (n p : ℕ) → n ≤ 16 → p ≤ length s → mapped (threshold_of s) (scanned n p) ≡ clauses n p
-  clauses-values n p h k = go (sizes-values n 0 p k (omega arith))
+  clauses_values : (n p : ℕ) → n ≤ 16 → p ≤ length s → mapped (threshold_of s) (scanned n p) ≡ clauses n p
+  clauses_values n p h k = go (sizes_values n 0 p k (omega arith))
     where
       go : Sized n 0 p → mapped (threshold_of s) (scanned n p) ≡ clauses n p
       go (stopped r u v) = rw (u, v)
-      go (sized t a i j u v) = by-room (leb (p + n + t * 16) (length s)) refl
+      go (sized t a i j u v) = by_room (leb (p + n + t * 16) (length s)) refl
         where
-          by-room : (b : Bool) → leb (p + n + t * 16) (length s) ≡ b → mapped (threshold_of s) (scanned n p) ≡ clauses n p
-          by-room true e =
+          by_room : (b : Bool) → leb (p + n + t * 16) (length s) ≡ b → mapped (threshold_of s) (scanned n p) ≡ clauses n p
+          by_room true e =
               let l : p + n + t * 16 ≤ length s = leb-true (p + n + t * 16) (length s) e in
               let m : total (list_of (byte_of s) 1 n p) ≡ t = omega arith in
               let w : p + n * 1 ≤ length s = omega arith in
-              rw (u, v, m, pass-got (weighted_marks n p t (p + n)) (t * 16) s (p + n) l, weights-had t (p + n) l)
+              rw (u, v, m, pass_got (weighted_marks n p t (p + n)) (t * 16) s (p + n) l, weights_had t (p + n) l)
               (ap (λ (x : Threshold). got x (p + n + t * 16)) (weighted_is n p t (p + n) h w i l))
-          by-room false e =
+          by_room false e =
               let l : length s < p + n + t * 16 = leb-false (p + n + t * 16) (length s) e in
               let m : total (list_of (byte_of s) 1 n p) ≡ t = omega arith in
-              rw (u, v, m, pass-short (weighted_marks n p t (p + n)) (t * 16) s (p + n) l, weights-short t (p + n) a l)
+              rw (u, v, m, pass_short (weighted_marks n p t (p + n)) (t * 16) s (p + n) l, weights_short t (p + n) a l)
 
-  weighted-values : (at : ℕ) → mapped (threshold_of s) (weighted_at s at) ≡ threshold_as 1 s at
+  weighted_values : (at : ℕ) → mapped (threshold_of s) (weighted_at s at) ≡ threshold_as 1 s at
   unfolding weighted_at threshold_as clauses_at byte_at
-  weighted-values at = by-room (ltb at (length s)) refl
+  weighted_values at = by_room (ltb at (length s)) refl
     where
       counted : (b : Bool) → leb (get_or s at 0) 16 ≡ b → at + 1 ≤ length s
           → mapped (threshold_of s) (pick b (scanned (get_or s at 0) (at + 1)) (bad 4))
           ≡ bind (pick b (sizes_at s (get_or s at 0) 0 (at + 1)) (bad 4)) (λ sizes q. bind (many_at (weight_at s) (total sizes) q) (λ weights r. got (weighted sizes weights) r))
-      counted true e l = clauses-values (get_or s at 0) (at + 1) (leb-true (get_or s at 0) 16 e) l
+      counted true e l = clauses_values (get_or s at 0) (at + 1) (leb-true (get_or s at 0) 16 e) l
       counted false e l = refl
 
-      by-room : (b : Bool) → ltb at (length s) ≡ b → mapped (threshold_of s) (weighted_at s at) ≡ threshold_as 1 s at
-      by-room true e =
+      by_room : (b : Bool) → ltb at (length s) ≡ b → mapped (threshold_of s) (weighted_at s at) ≡ threshold_as 1 s at
+      by_room true e =
           let l : at + 1 ≤ length s = omega (arith, ltb-true at (length s) e) in
           rw e (counted (leb (get_or s at 0) 16) refl l)
-      by-room false e = rw e
+      by_room false e = rw e
 
-  many-zero : {A : Type 0} (f : ℕ → A) (w : ℕ) → many_of f w 16 s 0 0 ≡ []
-  many-zero f w = many-got f w 16 s 0 0 (omega arith) (omega arith) ∙ list-none f w 0
+  many_zero : {A : Type 0} (f : ℕ → A) (w : ℕ) → many_of f w 16 s 0 0 ≡ []
+  many_zero f w = many_got f w 16 s 0 0 (omega arith) (omega arith) ∙ list-none f w 0
 
   as_values : (tag at : ℕ) → mapped (threshold_of s) (marks_as tag s at) ≡ threshold_as tag s at
   unfolding marks_as threshold_as
-  as_values zero at = as_is (threshold_of s) (num_at 8 s at) _ _ λ n q. rw (many-zero (byte_of s) 1, many-zero (weight_of s) 16)
-  as_values (suc zero) at = weighted-values at
+  as_values zero at = as_is (threshold_of s) (num_at 8 s at) _ _ λ n q. rw (many_zero (byte_of s) 1, many_zero (weight_of s) 16)
+  as_values (suc zero) at = weighted_values at
   as_values (suc (suc n)) at = refl
 
   -- the threshold at the marks that a scan gave is that of the record
-  pub threshold-values : (at : ℕ) → mapped (threshold_of s) (marks_at s at) ≡ threshold_at s at
+  pub threshold_values : (at : ℕ) → mapped (threshold_of s) (marks_at s at) ≡ threshold_at s at
   unfolding marks_at threshold_at
-  threshold-values at = as_is (threshold_of s) (byte_at s at) _ _ λ tag q. as_values tag q
+  threshold_values at = as_is (threshold_of s) (byte_at s at) _ _ λ tag q. as_values tag q

@@ -1,6 +1,6 @@
 -- Signatures: which are no copies, the sets of places one signature at a time, and lists of the right shape. Assumes nothing.
---     within-at                what a place that was found says
---     exposed-, counted-       the ways through the step; counted-copy, counted-more, counted_none: one more signature in a list
+--     within_at                what a place that was found says
+--     exposed-, counted-       the ways through the step; counted-copy, counted_more, counted_none: one more signature in a list
 --     next-, used_all, array_all   the same along an array, and the end of its used places
 --     wire_trans               what equals a copy equals the one copied
 --     firsts_in, firsts-, list- the positions of a list's first ones, one more signature, and a step of the search among them
@@ -21,11 +21,11 @@ use denote.Laws.{Is}
 use Rattle.lists.specs.Lists.{pick, both, either, any, all, same_numbers}
 use Rattle.lists.specs.declared.Found.TheVariants.{At, Nothing}
 use Rattle.lists.proofs.Facts.{both_true, both_assoc, both_in, picks, same-numbers, clash}
-use Rattle.lists.proofs.Padding.{is-padded}
+use Rattle.lists.proofs.Padding.{is_padded}
 use Rattle.places.specs.Places.{set_of, with_place}
 use Rattle.places.proofs.Laws.{with, with-set, set_same, set-none, either_false}
 use Rattle.firsts.specs.Firsts.{has_first, with_first, first_ones}
-use Rattle.firsts.proofs.Laws.{any_more, none_yet_lem, first-kept, first_more, is-copy, no_copy}
+use Rattle.firsts.proofs.Laws.{any_more, none_yet_lem, first-kept, first_more, is_copy, no_copy}
 use Rattle.verification.specs.declared.Siger.{Siger}
 use Rattle.verification.specs.declared.Sigers.{Sigers}
 use Rattle.verification.specs.declared.Counted.{Counted}
@@ -51,59 +51,59 @@ both_right false b e = refl
 
 -- ---- a place within a list
 module _ (k n : ℕ) where
-  pub within-at : (p : ℕ) → place_within k n ≡ At p → (p ≡ k) × (ltb k n ≡ true)
+  pub within_at : (p : ℕ) → place_within k n ≡ At p → (p ≡ k) × (ltb k n ≡ true)
   unfolding place_within
-  within-at p = by-test (ltb k n) refl
+  within_at p = by_test (ltb k n) refl
     where
-      by-test : (b : Bool) → ltb k n ≡ b → pick b (At k) Nothing ≡ At p → (p ≡ k) × (b ≡ true)
-      by-test true e f = (let g : p ≡ k = cc in g, refl)
-      by-test false e f = let z : ◌≡◌ {A = ℕ} 0 1 = cc in absurd (omega arith)
+      by_test : (b : Bool) → ltb k n ≡ b → pick b (At k) Nothing ≡ At p → (p ≡ k) × (b ≡ true)
+      by_test true e f = (let g : p ≡ k = cc in g, refl)
+      by_test false e f = let z : ◌≡◌ {A = ℕ} 0 1 = cc in absurd (omega arith)
 
   within_none : place_within k n ≡ Nothing → ltb k n ≡ false
   unfolding place_within
-  within_none = by-test (ltb k n)
+  within_none = by_test (ltb k n)
     where
-      by-test : (b : Bool) → pick b (At k) Nothing ≡ Nothing → b ≡ false
-      by-test true f = let z : ◌≡◌ {A = ℕ} 0 1 = cc in absurd (omega arith)
-      by-test false f = refl
+      by_test : (b : Bool) → pick b (At k) Nothing ≡ Nothing → b ≡ false
+      by_test true f = let z : ◌≡◌ {A = ℕ} 0 1 = cc in absurd (omega arith)
+      by_test false f = refl
 
 -- ---- the ways through the step
 made : {v w x y : ℕ} → v ≡ w → x ≡ y → ◌≡◌ {A = Counted} (record { verified = v; exposed = x }) (record { verified = w; exposed = y })
 made e f = cc
 
 module _ (next set : ℕ) (s : Siger) where
-  pub exposed-off : s.dual ≡ false → set ≡ exposed_with next set s
+  pub exposed_off : s.dual ≡ false → set ≡ exposed_with next set s
   unfolding exposed_with
-  exposed-off e = rw (both_left s.dual (both (ltb s.ondex.0 next) s.matches) e)
+  exposed_off e = rw (both_left s.dual (both (ltb s.ondex.0 next) s.matches) e)
 
-  pub exposed-past : place_within s.ondex.0 next ≡ Nothing → set ≡ exposed_with next set s
+  pub exposed_past : place_within s.ondex.0 next ≡ Nothing → set ≡ exposed_with next set s
   unfolding exposed_with
-  exposed-past e = rw (both_right s.dual _ (both_left _ s.matches (within_none s.ondex.0 next e)))
+  exposed_past e = rw (both_right s.dual _ (both_left _ s.matches (within_none s.ondex.0 next e)))
 
   pub exposed-not : s.matches ≡ false → set ≡ exposed_with next set s
   unfolding exposed_with
   exposed-not e = rw (both_right s.dual _ (both_right (ltb s.ondex.0 next) _ e))
 
-  pub exposed-in : (p : ℕ) → s.dual ≡ true → place_within s.ondex.0 next ≡ At p → s.matches ≡ true → with_place set p ≡ exposed_with next set s
+  pub exposed_in : (p : ℕ) → s.dual ≡ true → place_within s.ondex.0 next ≡ At p → s.matches ≡ true → with_place set p ≡ exposed_with next set s
   unfolding exposed_with
-  exposed-in p d e m =
-      let f = within-at s.ondex.0 next p e in
+  exposed_in p d e m =
+      let f = within_at s.ondex.0 next p e in
       rw (both_in s.dual _ d (both_in (ltb s.ondex.0 next) _ f.1 m)) (ap (with_place set) f.0)
 
 module _ (keys next : ℕ) (c : Counted) (s : Siger) where
-  pub counted-off : s.verified ≡ false → c ≡ counted_with keys next c s
+  pub counted_off : s.verified ≡ false → c ≡ counted_with keys next c s
   unfolding counted_with
-  counted-off e = rw (both_left s.verified (ltb s.index.0 keys) e)
+  counted_off e = rw (both_left s.verified (ltb s.index.0 keys) e)
 
-  pub counted-past : place_within s.index.0 keys ≡ Nothing → c ≡ counted_with keys next c s
+  pub counted_past : place_within s.index.0 keys ≡ Nothing → c ≡ counted_with keys next c s
   unfolding counted_with
-  counted-past e = rw (both_right s.verified _ (within_none s.index.0 keys e))
+  counted_past e = rw (both_right s.verified _ (within_none s.index.0 keys e))
 
-  pub counted-in : (p v x : ℕ) → s.verified ≡ true → place_within s.index.0 keys ≡ At p → v ≡ with_place c.verified p → x ≡ exposed_with next c.exposed s
+  pub counted_in_lem : (p v x : ℕ) → s.verified ≡ true → place_within s.index.0 keys ≡ At p → v ≡ with_place c.verified p → x ≡ exposed_with next c.exposed s
       → record { verified = v; exposed = x } ≡ counted_with keys next c s
   unfolding counted_with
-  counted-in p v x g e h k =
-      let f = within-at s.index.0 keys p e in
+  counted_in_lem p v x g e h k =
+      let f = within_at s.index.0 keys p e in
       rw (both_in s.verified (ltb s.index.0 keys) g f.1) (made (h ∙ ap (with_place c.verified) f.0) k)
 
 -- ---- one more signature
@@ -138,9 +138,9 @@ within true o x y = refl
 within false o x y = refl
 
 module _ (keys next : ℕ) where
-  tally-more : (fs : List Siger) (s : Siger) → tally keys next (fs ++ (s ∷ [])) ≡ counted_with keys next (tally keys next fs) s
+  tally_more : (fs : List Siger) (s : Siger) → tally keys next (fs ++ (s ∷ [])) ≡ counted_with keys next (tally keys next fs) s
   unfolding counted_with exposed_with
-  tally-more fs s =
+  tally_more fs s =
       let v : Bool = both s.verified (ltb s.index.0 keys) in
       let x : Bool = both s.dual (both (ltb s.ondex.0 next) s.matches) in
       made
@@ -166,11 +166,11 @@ module _ (keys next : ℕ) where
       let f : firsts [] (xs ++ (s ∷ [])) ≡ firsts [] xs = firsts_more [] xs s ∙ rw e (append-nil (firsts [] xs)) in
       rw (counted_is xs, counted_is (xs ++ (s ∷ [])), f)
 
-  pub counted-more : (xs : List Siger) (s : Siger) → any (same_wire s) xs ≡ false
+  pub counted_more : (xs : List Siger) (s : Siger) → any (same_wire s) xs ≡ false
       → counted_with keys next (counted_of keys next xs) s ≡ counted_of keys next (xs ++ (s ∷ []))
-  counted-more xs s e =
+  counted_more xs s e =
       let f : firsts [] (xs ++ (s ∷ [])) ≡ firsts [] xs ++ (s ∷ []) = firsts_more [] xs s ∙ rw e in
-      rw (counted_is xs, counted_is (xs ++ (s ∷ [])), f, tally-more (firsts [] xs) s)
+      rw (counted_is xs, counted_is (xs ++ (s ∷ [])), f, tally_more (firsts [] xs) s)
 
   pub counted_none : counted_of keys next [] ≡ record { verified = 0; exposed = 0 }
   unfolding verified_at exposed_at firsts any
@@ -182,7 +182,7 @@ module _ (keys next : ℕ) (at : List Siger) (i : ℕ) (c : Counted) (h : i < le
   next-copy f = rw (add-one i, take-suc at i blank h) (e ∙ counted-copy keys next (take i at) (get_or at i blank) f)
 
   pub next_more : any (same_wire (get_or at i blank)) (take i at) ≡ false → counted_with keys next c (get_or at i blank) ≡ counted_of keys next (take (i + 1) at)
-  next_more f = rw (add-one i, take-suc at i blank h, e) (counted-more keys next (take i at) (get_or at i blank) f)
+  next_more f = rw (add-one i, take-suc at i blank h, e) (counted_more keys next (take i at) (get_or at i blank) f)
 
 pub used_all : (keys next : ℕ) (at : List Siger) (n i : ℕ) → i ≤ n → n ≤ i → counted_of keys next (take i at) ≡ counted_of keys next (take n at)
 used_all keys next at n i h g = rw (le_antisymm h g)
@@ -248,11 +248,11 @@ module _ (xs : List Siger) (i set : ℕ) (e : set ≡ firsts_in xs i) where
 
   module _ (x : Siger) (j : ℕ) (h : j < i) (g : i ≤ length xs) where
     pub list_copy : both (has_first set j) (same_wire x (get_or xs j blank)) ≡ true → any (same_wire x) (take i xs) ≡ true
-    list_copy f = is-copy same_wire (λ p. get_or xs p blank) (λ p. take p xs) wire_trans (length xs) (one_further xs) x i j h g (rw e at f)
+    list_copy f = is_copy same_wire (λ p. get_or xs p blank) (λ p. take p xs) wire_trans (length xs) (one_further xs) x i j h g (rw e at f)
 
-    pub list-other : i ≤ 64 → any (same_wire x) (take j xs) ≡ false → both (has_first set j) (same_wire x (get_or xs j blank)) ≡ false
+    pub list_other : i ≤ 64 → any (same_wire x) (take j xs) ≡ false → both (has_first set j) (same_wire x (get_or xs j blank)) ≡ false
         → any (same_wire x) (take (j + 1) xs) ≡ false
-    list-other w d f = no_copy same_wire (λ p. get_or xs p blank) (λ p. take p xs) wire_trans (length xs) (one_further xs) x i j h g w d (rw e at f)
+    list_other w d f = no_copy same_wire (λ p. get_or xs p blank) (λ p. take p xs) wire_trans (length xs) (one_further xs) x i j h g w d (rw e at f)
 
 -- ---- shape: only the zero signature is zero, and an array whose unused places are zero is its used ones, padded
 flag_off : (b : Bool) → same_flag false b ≡ true → b ≡ false
@@ -299,4 +299,4 @@ packed-signatures l h e =
     let g = good l e in
     let few : l.count ≤ 48 = g.few in
     let n : length (signatures l) ≡ l.count = simp length-take (omega arith) in
-    sigers (sym n) (is-padded no_siger zero_siger zero_only 48 l.count l.at h few g.rest)
+    sigers (sym n) (is_padded no_siger zero_siger zero_only 48 l.count l.at h few g.rest)

@@ -62,11 +62,11 @@ walking_start l s = record { within = omega arith; few = omega arith; fewer = om
 
 kept-length : (l : Lent) (f : First) (fs : List First) → length (kept_of after takes l (f ∷ fs)) ≡ pick (takes l f) 1 0 + length (kept_of after takes (after l f) fs)
 unfolding kept_of
-kept-length l f fs = by-test (takes l f)
+kept-length l f fs = by_test (takes l f)
   where
-    by-test : (t : Bool) → length (pick t (f ∷ kept_of after takes (after l f) fs) (kept_of after takes (after l f) fs)) ≡ pick t 1 0 + length (kept_of after takes (after l f) fs)
-    by-test true = omega arith
-    by-test false = omega arith
+    by_test : (t : Bool) → length (pick t (f ∷ kept_of after takes (after l f) fs) (kept_of after takes (after l f) fs)) ≡ pick t 1 0 + length (kept_of after takes (after l f) fs)
+    by_test true = omega arith
+    by_test false = omega arith
 
 most_one : (t : Bool) → pick t 1 0 ≤ 1
 most_one true = omega arith
@@ -81,8 +81,8 @@ module _ (l₀ : Lent) (s : List ℕ) (l : Lent) (w : Walked) (at : ℕ) (i : Wa
 
   -- what the call and the length came to
   module _ (left : Left) (v : Walked) (next : ℕ) (el : left ≡ offered_in l.bytes l.used (drop at s)) (ev : v ≡ counted_in w left.answer) (en : next ≡ next_in (drop at s) (first_of (drop at s))) where
-    is-left : left ≡ left_by l (first_of (drop at s))
-    is-left = el ∙ left-first l.bytes l.used (drop at s)
+    is_left : left ≡ left_by l (first_of (drop at s))
+    is_left = el ∙ left-first l.bytes l.used (drop at s)
 
     pub next-some : 1 ≤ next
     next-some = rw en (bounds (drop at s) rest_some).some
@@ -98,9 +98,9 @@ module _ (l₀ : Lent) (s : List ℕ) (l : Lent) (w : Walked) (at : ℕ) (i : Wa
         records_next (drop at s) rest_some
         ∙ ap (λ (t : List ℕ). first_of (drop at s) ∷ records_of t) (ap (λ (k : ℕ). drop k (drop at s)) (sym en) ∙ drop-drop next at s)
 
-    pub walking-next : Walking l₀ s (lent left.bytes left.used) v (at + next)
+    pub walking_next : Walking l₀ s (lent left.bytes left.used) v (at + next)
     unfolding end_of
-    walking-next =
+    walking_next =
         let f = first_of (drop at s) in
         let fs = records_of (drop (at + next) s) in
         let one = most_one (takes l f) in
@@ -113,7 +113,7 @@ module _ (l₀ : Lent) (s : List ℕ) (l : Lent) (w : Walked) (at : ℕ) (i : Wa
         ap (λ (gs : List First). w.accepted + length (kept_of after takes l gs)) (sym split) ∙ i.taken in
         let sees_more : w.offered + length (f ∷ fs) ≡ length (records_of s) =
         ap (λ (gs : List First). w.offered + length gs) (sym split) ∙ i.seen in
-        rw (ev, is-left)
+        rw (ev, is_left)
         (record {
           within = next-within;
           few = omega arith;

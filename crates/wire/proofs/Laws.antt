@@ -3,7 +3,7 @@
 --     same-..       each way through the comparison of two
 --     firsts-.., list-..   the first ones with one signature more, and a step of the search for a copy among them
 --     next-..       the sets of places with one signature more
---     sigers-values   scanning a list and taking the signatures at its places is reading it
+--     sigers_values   scanning a list and taking the signatures at its places is reading it
 use mathlib.Core.Path.{◌≡◌, refl, sym, ap, ◌∙◌}
 use mathlib.Core.Bool.{Bool, true, false, not, ◌&&◌}
 use mathlib.Core.List.{List, [], ◌∷◌, ◌++◌}
@@ -21,14 +21,14 @@ use Rattle.format.specs.Parse.{Parse, got, bad, bind, byte_at, be_from, num_at, 
 use Rattle.format.specs.Fields.{flag_at, ondex_at, siger_at, sigers_at}
 use Rattle.cursor.specs.Cursor.{raw_of}
 use Rattle.cursor.specs.Spans.{mapped, list_of}
-use Rattle.cursor.proofs.Laws.{Agree, had, refused, num-got, byte-got, byte-short, raw-got, list-none, list-next, many-over, many-short, many-got, span-values}
+use Rattle.cursor.proofs.Laws.{Agree, had, refused, num_got, byte_got, byte-short, raw_got, list-none, list-next, many_over, many_short, many_got, span_values}
 use Rattle.verification.specs.declared.Siger.{Siger}
 use Rattle.verification.specs.declared.Counted.{Counted}
 use Rattle.verification.specs.declared.Claim.{Claim}
 use Rattle.verification.specs.Verification.{same_flag, same_wire, counted_with, exposed_with, counted_of, claimed, claim_of, packed_sigers}
-use Rattle.verification.proofs.Laws.{counted_none, counted-copy, counted-more, wire_trans}
+use Rattle.verification.proofs.Laws.{counted_none, counted-copy, counted_more, wire_trans}
 use Rattle.firsts.specs.Firsts.{has_first, with_first}
-use Rattle.firsts.proofs.Laws.{none_yet_lem, first-kept, first_more, is-copy, no_copy}
+use Rattle.firsts.proofs.Laws.{none_yet_lem, first-kept, first_more, is_copy, no_copy}
 use Rattle.wire.specs.Wire.{word_of, siger_of, sigers_of, firsts_from, shaped_at, place_at, sigers_span}
 
 -- ---- shape
@@ -47,29 +47,29 @@ module _ (s : List ℕ) (at : ℕ) where
   unfolding shaped_at
   shaped-flag h f = rw (le-leb _ _ h, lt-leb _ _ f)
 
-  pub shaped-ondex : at + 76 ≤ length s → flag ≤ 1 → Fits false → shaped_at s at ≡ false
+  pub shaped_ondex : at + 76 ≤ length s → flag ≤ 1 → Fits false → shaped_at s at ≡ false
   unfolding shaped_at
-  shaped-ondex h f e = rw (le-leb _ _ h, le-leb _ _ f, e)
+  shaped_ondex h f e = rw (le-leb _ _ h, le-leb _ _ f, e)
 
-  pub shaped-verified : at + 76 ≤ length s → flag ≤ 1 → Fits true → 1 < get_or s (at + 74) 0 → shaped_at s at ≡ false
+  pub shaped_verified : at + 76 ≤ length s → flag ≤ 1 → Fits true → 1 < get_or s (at + 74) 0 → shaped_at s at ≡ false
   unfolding shaped_at
-  shaped-verified h f e v = rw (le-leb _ _ h, le-leb _ _ f, e, lt-leb _ _ v)
+  shaped_verified h f e v = rw (le-leb _ _ h, le-leb _ _ f, e, lt-leb _ _ v)
 
-  pub shaped-rest : at + 76 ≤ length s → flag ≤ 1 → Fits true → get_or s (at + 74) 0 ≤ 1 → shaped_at s at ≡ leb (get_or s (at + 75) 0) 1
+  pub shaped_rest : at + 76 ≤ length s → flag ≤ 1 → Fits true → get_or s (at + 74) 0 ≤ 1 → shaped_at s at ≡ leb (get_or s (at + 75) 0) 1
   unfolding shaped_at
-  shaped-rest h f e v = rw (le-leb _ _ h, le-leb _ _ f, e, le-leb _ _ v)
+  shaped_rest h f e v = rw (le-leb _ _ h, le-leb _ _ f, e, le-leb _ _ v)
 
   pub shaped-room : shaped_at s at ≡ true → at + 76 ≤ length s
   unfolding shaped_at
   shaped-room e = leb-true (at + 76) (length s) (both_true (leb (at + 76) (length s)) _ e).0
 
-  pub place-got : shaped_at s at ≡ true → place_at s at ≡ got at (at + 76)
+  pub place_got : shaped_at s at ≡ true → place_at s at ≡ got at (at + 76)
   unfolding place_at
-  place-got e = rw e
+  place_got e = rw e
 
-  pub place-bad : shaped_at s at ≡ false → place_at s at ≡ bad 3
+  pub place_bad : shaped_at s at ≡ false → place_at s at ≡ bad 3
   unfolding place_at
-  place-bad e = rw e
+  place_bad e = rw e
 
 -- ---- comparison
 -- n bytes at each of two places, as a loop compares them: what is left after k
@@ -83,8 +83,8 @@ module _ (n : ℕ) (s : List ℕ) (p q i : ℕ) (hp : p + n ≤ length s) (hq : 
   run_at : (k : ℕ) → i < n → get_or (take n (drop k s)) i 0 ≡ get_or s (k + i) 0
   run_at k h = rw (get_or-take n (drop k s) i 0 h, get_or-drop)
 
-  run-stop : i < n → (get_or s (p + i) 0 ≡ get_or s (q + i) 0 → ⊥) → left n s p q i ≡ false
-  run-stop h d =
+  run_stop : i < n → (get_or s (p + i) 0 ≡ get_or s (q + i) 0 → ⊥) → left n s p q i ≡ false
+  run_stop h d =
       let a : i < length (take n (drop p s)) = omega (arith, run_length p hp) in
       let b : i < length (take n (drop q s)) = omega (arith, run_length q hq) in
       same_stop (take n (drop p s)) (take n (drop q s)) i a b (λ e. d (sym (run_at p h) ∙ e ∙ run_at q h))
@@ -125,31 +125,31 @@ module _ (s : List ℕ) (p q : ℕ) (hp : p + 76 ≤ length s) (hq : q + 76 ≤ 
       (both (same_flag (eqb (get_or s (p + 5) 0) 1) (eqb (get_or s (q + 5) 0) 1))
       (both (eqb (word_of s (p + 6)) (word_of s (q + 6))) (same_numbers (take 64 (drop (p + 10) s)) (take 64 (drop (q + 10) s))))))
 
-  wire-is : wire ≡ apart
+  wire_is : wire ≡ apart
   unfolding same_wire siger_of
-  wire-is = rw (raw-got 64 s (p + 10) (omega arith), raw-got 64 s (q + 10) (omega arith))
+  wire_is = rw (raw_got 64 s (p + 10) (omega arith), raw_got 64 s (q + 10) (omega arith))
 
   pub same-raw : Raw false → wire ≡ false
-  same-raw e = wire-is ∙ rw (e, both_off (eqb (word_of s (p + 6)) (word_of s (q + 6))), both_off (same_flag _ _), both_off (eqb (word_of s (p + 1)) _), both_off)
+  same-raw e = wire_is ∙ rw (e, both_off (eqb (word_of s (p + 6)) (word_of s (q + 6))), both_off (same_flag _ _), both_off (eqb (word_of s (p + 1)) _), both_off)
 
   -- told apart by the first raw byte
   pub same_first : (get_or s (p + 10) 0 ≡ get_or s (q + 10) 0 → ⊥) → wire ≡ false
   same_first d =
       let a : p + 10 + 0 ≡ p + 10 = omega arith in
       let b : q + 10 + 0 ≡ q + 10 = omega arith in
-      same-raw (run-stop 64 s (p + 10) (q + 10) 0 (omega arith) (omega arith) (omega arith) (rw (a, b) d))
+      same-raw (run_stop 64 s (p + 10) (q + 10) 0 (omega arith) (omega arith) (omega arith) (rw (a, b) d))
 
   pub same_code : (get_or s p 0 ≡ get_or s q 0 → ⊥) → wire ≡ false
-  same_code d = wire-is ∙ rw (ne_eqb _ _ d)
+  same_code d = wire_is ∙ rw (ne_eqb _ _ d)
 
   pub same_index : (word_of s (p + 1) ≡ word_of s (q + 1) → ⊥) → wire ≡ false
-  same_index d = wire-is ∙ rw (ne_eqb (word_of s (p + 1)) (word_of s (q + 1)) d, both_off)
+  same_index d = wire_is ∙ rw (ne_eqb (word_of s (p + 1)) (word_of s (q + 1)) d, both_off)
 
-  pub same-dual : Flag false → wire ≡ false
-  same-dual e = wire-is ∙ rw (e, both_off (eqb (word_of s (p + 1)) _), both_off)
+  pub same_dual : Flag false → wire ≡ false
+  same_dual e = wire_is ∙ rw (e, both_off (eqb (word_of s (p + 1)) _), both_off)
 
-  pub same-ondex : Raw true → get_or s p 0 ≡ get_or s q 0 → word_of s (p + 1) ≡ word_of s (q + 1) → Flag true → wire ≡ eqb (word_of s (p + 6)) (word_of s (q + 6))
-  same-ondex r c i f = wire-is ∙ rw (r, eq-eqb (get_or s p 0) _ c, eq-eqb (word_of s (p + 1)) _ i, f, both_on)
+  pub same_ondex : Raw true → get_or s p 0 ≡ get_or s q 0 → word_of s (p + 1) ≡ word_of s (q + 1) → Flag true → wire ≡ eqb (word_of s (p + 6)) (word_of s (q + 6))
+  same_ondex r c i f = wire_is ∙ rw (r, eq-eqb (get_or s p 0) _ c, eq-eqb (word_of s (p + 1)) _ i, f, both_on)
 
 -- ---- the search for a copy among the first ones of i
 module _ (s : List ℕ) (at : ℕ) where
@@ -179,10 +179,10 @@ module _ (s : List ℕ) (at : ℕ) where
 
     module _ (x : Siger) (j q : ℕ) (h : j < i) (k : q ≡ at + j * 76) where
       pub list_copy : both (has_first set j) (same_wire x (siger_of s q)) ≡ true → any (same_wire x) (sigers i) ≡ true
-      list_copy f = is-copy same_wire siger sigers wire_trans i (one_further i) x i j h (le_refl i) (rw (e, k) at f)
+      list_copy f = is_copy same_wire siger sigers wire_trans i (one_further i) x i j h (le_refl i) (rw (e, k) at f)
 
-      pub list-other : i ≤ 64 → any (same_wire x) (sigers j) ≡ false → both (has_first set j) (same_wire x (siger_of s q)) ≡ false → any (same_wire x) (sigers (j + 1)) ≡ false
-      list-other w d f = no_copy same_wire siger sigers wire_trans i (one_further i) x i j h (le_refl i) w d (rw (e, k) at f)
+      pub list_other : i ≤ 64 → any (same_wire x) (sigers j) ≡ false → both (has_first set j) (same_wire x (siger_of s q)) ≡ false → any (same_wire x) (sigers (j + 1)) ≡ false
+      list_other w d f = no_copy same_wire siger sigers wire_trans i (one_further i) x i j h (le_refl i) w d (rw (e, k) at f)
 
 -- ---- the sets of places
 pub claim_is : (s : List ℕ) (p : ℕ) {i o : ℕ} → i ≡ word_of s (p + 1) → o ≡ word_of s (p + 6)
@@ -211,7 +211,7 @@ module _ (keys next : ℕ) (s : List ℕ) (at : ℕ) where
 
     pub next_more : copied ≡ false → counted_with keys next c (claimed (claim_of (siger_of s p))) ≡ counted (i + 1)
     unfolding counted_with exposed_with
-    next_more f = rw (list-next (siger_of s) 76 i at, ← h, e) (counted-more keys next (list_of (siger_of s) 76 i at) (siger_of s p) f)
+    next_more f = rw (list-next (siger_of s) 76 i at, ← h, e) (counted_more keys next (list_of (siger_of s) 76 i at) (siger_of s p) f)
 
   abbrev zero-set : Counted
   zero-set = record { verified = 0; exposed = 0 }
@@ -221,45 +221,45 @@ module _ (keys next : ℕ) (s : List ℕ) (at : ℕ) where
 
   module _ (n : ℕ) where
     pub count-over : 48 < n → zero-set ≡ counted_of keys next (sigers_of s n at)
-    count-over h = rw (many-over (siger_of s) 76 48 s n at h) (sym (counted_none keys next))
+    count-over h = rw (many_over (siger_of s) 76 48 s n at h) (sym (counted_none keys next))
 
     pub count-short : n ≤ 48 → length s < at + n * 76 → zero-set ≡ counted_of keys next (sigers_of s n at)
-    count-short h k = rw (many-short (siger_of s) 76 48 s n at h k) (sym (counted_none keys next))
+    count-short h k = rw (many_short (siger_of s) 76 48 s n at h k) (sym (counted_none keys next))
 
     pub count-all : (i : ℕ) (c : Counted) → n ≤ 48 → at + n * 76 ≤ length s → i ≡ n → c ≡ counted i → c ≡ counted_of keys next (sigers_of s n at)
-    count-all i c h k d e = rw (many-got (siger_of s) 76 48 s n at h k, ← d) e
+    count-all i c h k d e = rw (many_got (siger_of s) 76 48 s n at h k, ← d) e
 
 -- ---- by values: each field in turn, had with its value and the place behind it
 module _ (s : List ℕ) where
   word_got : (p : ℕ) → p + 4 ≤ length s → num_at 4 s p ≡ got (word_of s p) (p + 4)
-  word_got p h = rw (num-got 4 s p h)
+  word_got p h = rw (num_got 4 s p h)
 
   chosen : {A B : Type 0} (b : Bool) (a : A) (q : ℕ) (k : A → ℕ → Parse B) {x : Parse B} → k a q ≡ x → bind (pick b (got a q) (bad 3)) k ≡ pick b x (bad 3)
   chosen true a q k e = e
   chosen false a q k e = refl
 
   module _ {A : Type 0} (p q : ℕ) {x : Parse A} where
-    had-byte : (k : ℕ → ℕ → Parse A) → p + 1 ≤ length s → p + 1 ≡ q → k (get_or s p 0) q ≡ x → bind (byte_at s p) k ≡ x
-    had-byte k h e f = let g : p < length s = omega arith in rw (byte-got s p g, e) f
+    had_byte : (k : ℕ → ℕ → Parse A) → p + 1 ≤ length s → p + 1 ≡ q → k (get_or s p 0) q ≡ x → bind (byte_at s p) k ≡ x
+    had_byte k h e f = let g : p < length s = omega arith in rw (byte_got s p g, e) f
 
-    had-word : (k : ℕ → ℕ → Parse A) → p + 4 ≤ length s → p + 4 ≡ q → k (word_of s p) q ≡ x → bind (num_at 4 s p) k ≡ x
-    had-word k h e f = rw (word_got p h, e) f
+    had_word : (k : ℕ → ℕ → Parse A) → p + 4 ≤ length s → p + 4 ≡ q → k (word_of s p) q ≡ x → bind (num_at 4 s p) k ≡ x
+    had_word k h e f = rw (word_got p h, e) f
 
-    had-flag : (k : Bool → ℕ → Parse A) → p + 1 ≤ length s → p + 1 ≡ q → k (eqb (get_or s p 0) 1) q ≡ x
+    had_flag : (k : Bool → ℕ → Parse A) → p + 1 ≤ length s → p + 1 ≡ q → k (eqb (get_or s p 0) 1) q ≡ x
         → bind (flag_at s p) k ≡ pick (leb (get_or s p 0) 1) x (bad 3)
     unfolding flag_at
-    had-flag k h e f = let g : p < length s = omega arith in rw (byte-got s p g, e) (chosen (leb (get_or s p 0) 1) (eqb (get_or s p 0) 1) q k f)
+    had_flag k h e f = let g : p < length s = omega arith in rw (byte_got s p g, e) (chosen (leb (get_or s p 0) 1) (eqb (get_or s p 0) 1) q k f)
 
-    had-ondex : (d : Bool) (k : ℕ → ℕ → Parse A) → p + 4 ≤ length s → p + 4 ≡ q → k (word_of s p) q ≡ x
+    had_ondex : (d : Bool) (k : ℕ → ℕ → Parse A) → p + 4 ≤ length s → p + 4 ≡ q → k (word_of s p) q ≡ x
         → bind (ondex_at d s p) k ≡ pick (either d (eqb (word_of s p) 0)) x (bad 3)
     unfolding ondex_at
-    had-ondex d k h e f = rw (word_got p h, e) (chosen (either d (eqb (word_of s p) 0)) (word_of s p) q k f)
+    had_ondex d k h e f = rw (word_got p h, e) (chosen (either d (eqb (word_of s p) 0)) (word_of s p) q k f)
 
-    had-raw : (k : List ℕ → ℕ → Parse A) → p + 64 ≤ length s → p + 64 ≡ q → k (raw_of 64 s p) q ≡ x → bind (raw_at 64 s p) k ≡ x
+    had_raw : (k : List ℕ → ℕ → Parse A) → p + 64 ≤ length s → p + 64 ≡ q → k (raw_of 64 s p) q ≡ x → bind (raw_at 64 s p) k ≡ x
     unfolding raw_at
-    had-raw k h e f = rw (le-leb (p + 64) (length s) h, ← raw-got 64 s p h, e) f
+    had_raw k h e f = rw (le-leb (p + 64) (length s) h, ← raw_got 64 s p h, e) f
 
-  siger-had : (at : ℕ) → at + 76 ≤ length s
+  siger_had : (at : ℕ) → at + 76 ≤ length s
       → siger_at s at
       ≡ pick (leb (get_or s (at + 5) 0) 1)
       (pick (either (eqb (get_or s (at + 5) 0) 1) (eqb (word_of s (at + 6)) 0))
@@ -267,13 +267,13 @@ module _ (s : List ℕ) where
       (bad 3))
       (bad 3)
   unfolding siger_at siger_of
-  siger-had at h =
-      had-byte at (at + 1) _ (omega arith) refl
-      (had-word (at + 1) (at + 5) _ (omega arith) (omega arith)
-      (had-flag (at + 5) (at + 6) _ (omega arith) (omega arith)
-      (had-ondex (at + 6) (at + 10) (eqb (get_or s (at + 5) 0) 1) _ (omega arith) (omega arith)
-      (had-raw (at + 10) (at + 74) _ (omega arith) (omega arith)
-      (had-flag (at + 74) (at + 75) _ (omega arith) (omega arith) (had-flag (at + 75) (at + 76) _ (omega arith) (omega arith) refl))))))
+  siger_had at h =
+      had_byte at (at + 1) _ (omega arith) refl
+      (had_word (at + 1) (at + 5) _ (omega arith) (omega arith)
+      (had_flag (at + 5) (at + 6) _ (omega arith) (omega arith)
+      (had_ondex (at + 6) (at + 10) (eqb (get_or s (at + 5) 0) 1) _ (omega arith) (omega arith)
+      (had_raw (at + 10) (at + 74) _ (omega arith) (omega arith)
+      (had_flag (at + 74) (at + 75) _ (omega arith) (omega arith) (had_flag (at + 75) (at + 76) _ (omega arith) (omega arith) refl))))))
 
   -- ---- or refused with 3, each field that is not had, and the last one where the bytes run out
   maybe : {A B : Type 0} (b : Bool) (a : A) (n : ℕ) (k : A → ℕ → Parse B) → k a n ≡ bad 3 → bind (pick b (got a n) (bad 3)) k ≡ bad 3
@@ -289,9 +289,9 @@ module _ (s : List ℕ) where
     unfolding byte_at
     short-byte k h = maybe (ltb p (length s)) (get_or s p 0) (p + 1) k (h (get_or s p 0))
 
-    short-num : (w : ℕ) (k : ℕ → ℕ → Parse A) → ((v : ℕ) → k v (p + w) ≡ bad 3) → bind (num_at w s p) k ≡ bad 3
+    short_num : (w : ℕ) (k : ℕ → ℕ → Parse A) → ((v : ℕ) → k v (p + w) ≡ bad 3) → bind (num_at w s p) k ≡ bad 3
     unfolding num_at
-    short-num w k h = maybe (leb (p + w) (length s)) (be_from 0 (take w (drop p s))) (p + w) k (h (be_from 0 (take w (drop p s))))
+    short_num w k h = maybe (leb (p + w) (length s)) (be_from 0 (take w (drop p s))) (p + w) k (h (be_from 0 (take w (drop p s))))
 
     short-raw : (w : ℕ) (k : List ℕ → ℕ → Parse A) → ((v : List ℕ) → k v (p + w) ≡ bad 3) → bind (raw_at w s p) k ≡ bad 3
     unfolding raw_at
@@ -301,29 +301,29 @@ module _ (s : List ℕ) where
     unfolding flag_at
     short-flag k h = after (byte_at s p) _ k ∙ short-byte _ λ v. maybe (leb v 1) (eqb v 1) (p + 1) k (h (eqb v 1))
 
-    short-ondex : (d : Bool) (k : ℕ → ℕ → Parse A) → ((v : ℕ) → k v (p + 4) ≡ bad 3) → bind (ondex_at d s p) k ≡ bad 3
+    short_ondex : (d : Bool) (k : ℕ → ℕ → Parse A) → ((v : ℕ) → k v (p + 4) ≡ bad 3) → bind (ondex_at d s p) k ≡ bad 3
     unfolding ondex_at
-    short-ondex d k h = after (num_at 4 s p) _ k ∙ short-num 4 _ λ v. maybe (either d (eqb v 0)) v (p + 4) k (h v)
+    short_ondex d k h = after (num_at 4 s p) _ k ∙ short_num 4 _ λ v. maybe (either d (eqb v 0)) v (p + 4) k (h v)
 
-    short-last : (k : Bool → ℕ → Parse A) → length s ≤ p → bind (flag_at s p) k ≡ bad 3
+    short_last : (k : Bool → ℕ → Parse A) → length s ≤ p → bind (flag_at s p) k ≡ bad 3
     unfolding flag_at
-    short-last k h = rw (byte-short s p h)
+    short_last k h = rw (byte-short s p h)
 
   siger-short : (at : ℕ) → length s < at + 76 → siger_at s at ≡ bad 3
   unfolding siger_at
   siger-short at h =
       short-byte at _ λ code.
-      short-num (at + 1) 4 _ λ index.
+      short_num (at + 1) 4 _ λ index.
       short-flag (at + 1 + 4) _ λ dual.
-      short-ondex (at + 1 + 4 + 1) dual _ λ ondex.
+      short_ondex (at + 1 + 4 + 1) dual _ λ ondex.
       short-raw (at + 1 + 4 + 1 + 4) 64 _ λ raw.
       short-flag (at + 1 + 4 + 1 + 4 + 64) _ λ verified.
-      short-last (at + 1 + 4 + 1 + 4 + 64 + 1) _ (omega arith)
+      short_last (at + 1 + 4 + 1 + 4 + 64 + 1) _ (omega arith)
 
   -- a signature by its place is one by its value
-  pub siger-values : (at : ℕ) → Agree 76 (length s) at (place_at s at) (siger_at s at) (siger_of s at)
+  pub siger_values : (at : ℕ) → Agree 76 (length s) at (place_at s at) (siger_at s at) (siger_of s at)
   unfolding place_at shaped_at
-  siger-values at = by-room (leb (at + 76) (length s)) refl
+  siger_values at = by_room (leb (at + 76) (length s)) refl
     where
       tests : at + 76 ≤ length s → (a b c d : Bool)
           → Agree 76 (length s) at (pick (both a (both b (both c d))) (got at (at + 76)) (bad 3))
@@ -335,22 +335,22 @@ module _ (s : List ℕ) where
       tests h true false c d = refused 3 refl refl
       tests h false b c d = refused 3 refl refl
 
-      by-room : (b : Bool) → leb (at + 76) (length s) ≡ b → Agree 76 (length s) at (place_at s at) (siger_at s at) (siger_of s at)
-      by-room true e =
+      by_room : (b : Bool) → leb (at + 76) (length s) ≡ b → Agree 76 (length s) at (place_at s at) (siger_at s at) (siger_of s at)
+      by_room true e =
           let h = leb-true (at + 76) (length s) e in
-          rw (siger-had at h, e)
+          rw (siger_had at h, e)
           (tests h (leb (get_or s (at + 5) 0) 1) (either (eqb (get_or s (at + 5) 0) 1) (eqb (word_of s (at + 6)) 0)) (leb (get_or s (at + 74) 0) 1) (leb (get_or s (at + 75) 0) 1))
-      by-room false e =
+      by_room false e =
           let h = leb-false (at + 76) (length s) e in
-          refused 3 (place-bad s at (shaped-short s at h)) (siger-short at h)
+          refused 3 (place_bad s at (shaped-short s at h)) (siger-short at h)
 
   packs : {A B : Type 0} (f : A → B) (x : Parse (ℕ × ℕ)) (v : ℕ × ℕ → A) → mapped (λ (m : ℕ × ℕ). f (v m)) x ≡ bind (mapped v x) (λ a q. got (f a) q)
   packs f (got m q) v = refl
   packs f (bad r) v = refl
 
   -- the signatures at the places that a scan gave are those of the record
-  pub sigers-values : (at : ℕ) → mapped (λ (m : ℕ × ℕ). packed_sigers (sigers_of s m.0 m.1)) (sigers_span s at) ≡ sigers_at s at
+  pub sigers_values : (at : ℕ) → mapped (λ (m : ℕ × ℕ). packed_sigers (sigers_of s m.0 m.1)) (sigers_span s at) ≡ sigers_at s at
   unfolding sigers_at
-  sigers-values at =
+  sigers_values at =
       packs packed_sigers (sigers_span s at) (λ (m : ℕ × ℕ). sigers_of s m.0 m.1)
-      ∙ ap (λ (x : Parse (List Siger)). bind x (λ xs q. got (packed_sigers xs) q)) (span-values (place_at s) (siger_at s) (siger_of s) 76 48 s siger-values at)
+      ∙ ap (λ (x : Parse (List Siger)). bind x (λ xs q. got (packed_sigers xs) q)) (span_values (place_at s) (siger_at s) (siger_of s) 76 48 s siger_values at)

@@ -1,7 +1,7 @@
 -- Writing over a buffer, one piece after another. Assumes nothing.
 --     over-..      the first byte first, the last byte first, nothing, one piece behind another
 --     no_room, whole, wrote   what a total writer does: nothing, or all of it
---     Left         what is still to be written: `begin`, `fits`, `more`, `done`, `last` are all that a writer cites; `put-more` and
+--     Left         what is still to be written: `begin`, `fits`, `more`, `done`, `last` are all that a writer cites; `put_more` and
 --                  `put_last` where the piece is a total writer's
 --     bytes-..     a loop that copies bytes; digits-..: one that writes digits from the last one, as those of a number in bytes
 use mathlib.Core.Path.{◌≡◌, refl, sym, ap, ◌∙◌}
@@ -109,8 +109,8 @@ room_test at n len h = go (leb at (len - n)) refl
 
 -- what it tells: t is its answer
 module _ (t : Bool) (at n : ℕ) (b : List ℕ) (e : t ≡ leb (at + n) (length b)) where
-  pub is-room : not t ≡ false → at + n ≤ length b
-  is-room h = leb-true (at + n) (length b) (sym e ∙ not-false t h)
+  pub is_room : not t ≡ false → at + n ≤ length b
+  is_room h = leb-true (at + n) (length b) (sym e ∙ not-false t h)
 
   pub is_none : not t ≡ true → length b < at + n
   is_none h = leb-false (at + n) (length b) (sym e ∙ not-true t h)
@@ -154,8 +154,8 @@ module _ {all b₀ b : List ℕ} {at p : ℕ} where
   pub last : {b' : List ℕ} {q : ℕ} (xs : List ℕ) → Left all at b₀ xs p b → Wrote xs p b q b' → Wrote all at b₀ q b'
   last {b'} {q} xs l w = record { behind = w.behind ∙ sym l.end; bytes = w.bytes ∙ sym l.is }
 
-  pub put-more : {b' : List ℕ} {q : ℕ} (xs rest : List ℕ) → Left all at b₀ (xs ++ rest) p b → Put xs p b q b' → Left all at b₀ rest q b'
-  put-more xs rest l e = more xs rest l (wrote xs p b (fits xs rest l) e)
+  pub put_more : {b' : List ℕ} {q : ℕ} (xs rest : List ℕ) → Left all at b₀ (xs ++ rest) p b → Put xs p b q b' → Left all at b₀ rest q b'
+  put_more xs rest l e = more xs rest l (wrote xs p b (fits xs rest l) e)
 
   pub put_last : {b' : List ℕ} {q : ℕ} (xs : List ℕ) → Left all at b₀ xs p b → Put xs p b q b' → Wrote all at b₀ q b'
   put_last xs l e = last xs l (wrote xs p b l.room e)
@@ -165,8 +165,8 @@ pub bytes-start : (at : ℕ) (src b : List ℕ) → at + length src ≤ length b
 bytes-start at src b h = rw add-zero (begin src at b h)
 
 module _ (src b₀ b : List ℕ) (at i : ℕ) (l : Left src at b₀ (drop i src) (at + i) b) where
-  pub bytes-more : i < length src → at + i < length b → Left src at b₀ (drop (i + 1) src) (at + (i + 1)) (set b (at + i) (get_or src i 0))
-  bytes-more h k =
+  pub bytes_more : i < length src → at + i < length b → Left src at b₀ (drop (i + 1) src) (at + (i + 1)) (set b (at + i) (get_or src i 0))
+  bytes_more h k =
       let e : drop i src ≡ (get_or src i 0 ∷ []) ++ drop (i + 1) src = head_of 0 src i h in
       let j : at + (i + 1) ≡ at + i + 1 = omega arith in
       rw j (more (get_or src i 0 ∷ []) (drop (i + 1) src) (rw e at l) (byte_wrote (at + i) (get_or src i 0) b k))
@@ -185,10 +185,10 @@ module _ {f : ℕ → ℕ → List ℕ} {base : ℕ} {glyph : ℕ → ℕ} (d : 
   digits-length (suc w) v = simp (d.next w v, length-append, digits-length w (v / base)) (omega arith)
 
   -- As a loop writes them from the last one: the first i are to come.
-  pub digits-less : (w : List ℕ) (at : ℕ) (b : List ℕ) (i x : ℕ) → 0 < i → at + i ≤ length b → w ≡ over at (f i x) b
+  pub digits_less : (w : List ℕ) (at : ℕ) (b : List ℕ) (i x : ℕ) → 0 < i → at + i ≤ length b → w ≡ over at (f i x) b
       → w ≡ over at (f (i - 1) (x / base)) (set b (at + (i - 1)) (glyph (x % base)))
-  digits-less w at b zero x h k e = absurd (not-suc-le-zero h)
-  digits-less w at b (suc i) x h k e =
+  digits_less w at b zero x h k e = absurd (not-suc-le-zero h)
+  digits_less w at b (suc i) x h k e =
       let l : at + length (f i (x / base)) < length b = rw digits-length (omega arith) in
       let j : suc i - 1 ≡ i = omega arith in
       let o = e ∙ ap (λ (xs : List ℕ). over at xs b) (d.next i x) ∙ over_last at (f i (x / base)) (glyph (x % base)) b l in

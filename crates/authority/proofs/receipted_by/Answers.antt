@@ -1,5 +1,5 @@
 use mathlib.Core.Path.{◌∙◌}
-use Rattle.authority.proofs.Laws.{receipts-none, witnessed-is}
+use Rattle.authority.proofs.Laws.{receipts-none, witnessed_is}
 use borrow.Author.Rules.{rules}
 use Rattle.authority.proofs.receipted_by.Goals as goal
 
@@ -8,4 +8,4 @@ returns-then-w-eq0 c = c.accept.ensures ∙ receipts-none _ _ c.if-w-eq0.true
 
 pub returns : goal.returns
 returns c = let a = c.args in
-    c.receipts.ensures ∙ witnessed-is c.used.result 0 a.l c.count-counted.result c.count-counted.ensures a.w c.used.ensures
+    c.receipts.ensures ∙ witnessed_is c.used.result 0 a.l c.count-counted.result c.count-counted.ensures a.w c.used.ensures

@@ -1,6 +1,6 @@
 use mathlib.Core.Path.{◌∙◌}
 use Rattle.places.specs.Places.{places_in}
-use Rattle.authority.proofs.Laws.{receipts-enough, receipts-few}
+use Rattle.authority.proofs.Laws.{receipts-enough, receipts_few}
 use borrow.Author.Rules.{rules}
 use Rattle.authority.proofs.receipts.Goals as goal
 
@@ -10,4 +10,4 @@ returns-then-toad-n c = let a = c.args in
 
 pub returns : goal.returns
 returns c = let a = c.args in
-    c.refuse.ensures ∙ receipts-few a.toad c.size-n.result (places_in a.set) c.size-n.ensures c.if-toad-n.false
+    c.refuse.ensures ∙ receipts_few a.toad c.size-n.result (places_in a.set) c.size-n.ensures c.if-toad-n.false

@@ -1,8 +1,8 @@
 use mathlib.Core.Path.{◌∙◌}
-use Rattle.authority.proofs.Laws.{verifies-is}
+use Rattle.authority.proofs.Laws.{verifies_is}
 use borrow.Author.Rules.{rules}
 use Rattle.authority.proofs.verify.Goals as goal
 
 pub returns : goal.returns
 returns c = let a = c.args in
-    c.quorum.ensures ∙ verifies-is c.used.result 0 a.l c.count-counted.result c.count-counted.ensures a.a c.used.ensures
+    c.quorum.ensures ∙ verifies_is c.used.result 0 a.l c.count-counted.result c.count-counted.ensures a.a c.used.ensures

@@ -1,7 +1,7 @@
 use mathlib.Core.Path.{◌≡◌, refl, sym, ◌∙◌}
 use Prim.Native.Nat.{◌-◌}
 use native.Mathlib.Omega.{arith}
-use Rattle.lists.proofs.Walks.{head_of, all-next, all-stop, all_end}
+use Rattle.lists.proofs.Walks.{head_of, all-next, all_stop, all_end}
 use borrow.Author.Tests.{eq-eqb, ne_eqb}
 use lib.Dec.{eqb}
 use Rattle.lists.specs.Lists.{all}
@@ -12,7 +12,7 @@ use Rattle.config.proofs.unused_zero.Goals as goal
 pub returns-then-traits-i-ne0 : goal.returns-then-traits-i-ne0
 returns-then-traits-i-ne0 c = let a = c.args.c in
     let i = c.loop-i.i in
-    sym (all-stop (eqb 0) a.traits _ i (head_of 0 a.traits i (omega arith)) (ne_eqb 0 _ (λ e. c.if-traits-i-ne0.true (sym e)))) ∙ c.loop-i.invariant.1
+    sym (all_stop (eqb 0) a.traits _ i (head_of 0 a.traits i (omega arith)) (ne_eqb 0 _ (λ e. c.if-traits-i-ne0.true (sym e)))) ∙ c.loop-i.invariant.1
 
 pub loop-i-preserved : goal.loop-i-preserved
 loop-i-preserved c = let a = c.args.c in

@@ -1,7 +1,7 @@
 use mathlib.Core.Path.{◌≡◌, refl, sym, ◌∙◌}
 use Prim.Native.Nat.{◌-◌}
 use native.Mathlib.Omega.{arith}
-use Rattle.lists.proofs.Walks.{head_of, all-next, all-stop, all_end}
+use Rattle.lists.proofs.Walks.{head_of, all-next, all_stop, all_end}
 use borrow.Author.Tests.{eq-eqb, ne_eqb}
 use lib.Dec.{eqb}
 use Rattle.lists.specs.Lists.{all}

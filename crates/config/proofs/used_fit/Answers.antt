@@ -1,7 +1,7 @@
 use mathlib.Core.Path.{◌≡◌, refl, sym, ◌∙◌}
 use Prim.Native.Nat.{◌-◌}
 use native.Mathlib.Omega.{arith}
-use Rattle.lists.proofs.Walks.{head_at, used-end, array_end, all-next, all-stop, all_end}
+use Rattle.lists.proofs.Walks.{head_at, used-end, array_end, all-next, all_stop, all_end}
 use borrow.Author.Tests.{not-true, not-false}
 use Rattle.config.specs.Config.{is_trait}
 use Rattle.lists.specs.Lists.{all}
@@ -18,7 +18,7 @@ pub returns-then-not-is_trait : goal.returns-then-not-is_trait
 returns-then-not-is_trait c = let a = c.args.c in
     let i = c.loop-i.i in
     let r = sym c.is_trait.ensures ∙ c.if-not-is_trait.true in
-    sym (all-stop is_trait (take a.count a.traits) _ i (head_at 0 a.traits a.count i (omega arith) (omega arith)) r) ∙ c.loop-i.invariant.1
+    sym (all_stop is_trait (take a.count a.traits) _ i (head_at 0 a.traits a.count i (omega arith) (omega arith)) r) ∙ c.loop-i.invariant.1
 
 pub loop-i-preserved : goal.loop-i-preserved
 loop-i-preserved c = let a = c.args.c in

@@ -1,7 +1,7 @@
 use mathlib.Core.Path.{◌≡◌, refl, sym, ◌∙◌}
 use Prim.Native.Nat.{◌-◌}
 use native.Mathlib.Omega.{arith}
-use Rattle.lists.proofs.Walks.{head_at, used-end, array_end, all-next, all-stop, all_end}
+use Rattle.lists.proofs.Walks.{head_at, used-end, array_end, all-next, all_stop, all_end}
 use borrow.Author.Tests.{not-true, not-false}
 use Rattle.config.specs.Config.{is_trait}
 use Rattle.lists.specs.Lists.{all}

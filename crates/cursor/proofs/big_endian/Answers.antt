@@ -3,15 +3,15 @@ use Prim.Native.Nat.{ℕ, ◌+◌, ◌-◌, ◌^◌, ◌≤◌, ◌<◌}
 use native.Mathlib.Omega.{arith}
 use lib.ListN.{take, drop}
 use Rattle.format.specs.Parse.{be_from}
-use Rattle.cursor.proofs.Laws.{be_more, room, grows, num-short, num-is}
+use Rattle.cursor.proofs.Laws.{be_more, room, grows, num_short, num_is}
 use borrow.Author.Rules.{rules}
 use Rattle.cursor.proofs.big_endian.Goals as goal
 
 pub returns-then-len-at : goal.returns-then-len-at
-returns-then-len-at c = record { result_value = sym (num-short _ _ _ (omega arith)); below64 = tt }
+returns-then-len-at c = record { result_value = sym (num_short _ _ _ (omega arith)); below64 = tt }
 
 pub returns-then-len-at-2 : goal.returns-then-len-at-2
-returns-then-len-at-2 c = record { result_value = sym (num-short _ _ _ (omega arith)); below64 = tt }
+returns-then-len-at-2 c = record { result_value = sym (num_short _ _ _ (omega arith)); below64 = tt }
 
 pub overflow_mul-v : goal.overflow_mul-v
 overflow_mul-v c = let l = c.loop-i in
@@ -36,7 +36,7 @@ pub returns : goal.returns
 returns c = let l = c.loop-i in
     let a = c.args in
     let e : l.i ≡ a.n = omega arith in
-    record { result_value = num-is a.n a.s.now a.at l.v l.i (omega arith) e l.invariant.1; below64 = subst (λ (k : ℕ). l.v < 256 ^ k) e l.invariant.2 }
+    record { result_value = num_is a.n a.s.now a.at l.v l.i (omega arith) e l.invariant.1; below64 = subst (λ (k : ℕ). l.v < 256 ^ k) e l.invariant.2 }
 
 pub loop-i-init : goal.loop-i-init
 unfolding be_from

@@ -1,5 +1,5 @@
 use mathlib.Core.Path.{◌≡◌, refl, sym, ◌∙◌, ap}
-use Rattle.device.proofs.Laws.{attainable-unread, attainable-over, attainable-whole}
+use Rattle.device.proofs.Laws.{attainable_unread, attainable-over, attainable_whole}
 use borrow.Author.Rules.{rules}
 use Rattle.device.proofs.attainable_in.Goals as goal
 
@@ -7,7 +7,7 @@ pub returns-then-end-s : goal.returns-then-end-s
 returns-then-end-s c = c.no_answer.ensures ∙ attainable-over c.args.s.now c.args.keys _ c.scan.ensures _ _ c.in-Of.is c.if-end-s.true
 
 pub returns-else-end-s : goal.returns-else-end-s
-returns-else-end-s c = c.attainable.ensures ∙ attainable-whole c.args.s.now c.args.keys _ c.scan.ensures _ _ c.in-Of.is _ c.if-end-s.false c.copy-t.ensures
+returns-else-end-s c = c.attainable.ensures ∙ attainable_whole c.args.s.now c.args.keys _ c.scan.ensures _ _ c.in-Of.is _ c.if-end-s.false c.copy-t.ensures
 
 pub returns-in-No : goal.returns-in-No
-returns-in-No c = c.no_answer-in-No.ensures ∙ attainable-unread c.args.s.now c.args.keys _ c.scan.ensures _ c.in-No.is
+returns-in-No c = c.no_answer-in-No.ensures ∙ attainable_unread c.args.s.now c.args.keys _ c.scan.ensures _ c.in-No.is

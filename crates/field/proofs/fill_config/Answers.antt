@@ -2,7 +2,7 @@ use native.Mathlib.Omega.{arith}
 use Prim.Native.Nat.{◌+◌, ◌*◌, ◌-◌, ◌≤◌}
 use Rattle.lists.specs.Lists.{padded}
 use Rattle.cursor.specs.Spans.{list_of}
-use Rattle.cursor.proofs.Laws.{list-more}
+use Rattle.cursor.proofs.Laws.{list_more}
 use Rattle.field.specs.Field.{byte_of}
 use Rattle.field.proofs.Laws.{traits_is}
 use mathlib.Core.Path.{◌≡◌, refl}
@@ -15,7 +15,7 @@ loop-i-init c = (search rules, search rules, refl)
 
 pub loop-i-preserved : goal.loop-i-preserved
 loop-i-preserved c = let a = c.args in
-    (omega arith, omega arith, list-more (byte_of a.s.now) 1 8 0 c.loop-i.i a.first c.loop-i.p _ _ (omega arith) c.loop-i.invariant.1 refl c.loop-i.invariant.2)
+    (omega arith, omega arith, list_more (byte_of a.s.now) 1 8 0 c.loop-i.i a.first c.loop-i.p _ _ (omega arith) c.loop-i.invariant.1 refl c.loop-i.invariant.2)
 
 pub returns : goal.returns
 returns c = let a = c.args in

@@ -3,7 +3,7 @@ use Prim.Native.Nat.{◌+◌, ◌*◌, ◌-◌, ◌≤◌}
 use Rattle.lists.specs.Lists.{padded}
 use Rattle.item.specs.Item.{zero_item}
 use Rattle.cursor.specs.Spans.{list_of}
-use Rattle.cursor.proofs.Laws.{list-more}
+use Rattle.cursor.proofs.Laws.{list_more}
 use Rattle.field.specs.Field.{item_of}
 use Rattle.field.proofs.Laws.{items_none, items_is}
 use mathlib.Core.Path.{◌≡◌}
@@ -15,7 +15,7 @@ loop-i-init c = (search rules, search rules, items_none _ _ _ c.zero-z.ensures)
 
 pub loop-i-preserved : goal.loop-i-preserved
 loop-i-preserved c = let a = c.args in
-    (omega arith, omega arith, list-more (item_of a.s.now) 33 16 zero_item c.loop-i.i a.first c.loop-i.p _ _ (omega arith) c.loop-i.invariant.1 c.copy_item-x.ensures c.loop-i.invariant.2)
+    (omega arith, omega arith, list_more (item_of a.s.now) 33 16 zero_item c.loop-i.i a.first c.loop-i.p _ _ (omega arith) c.loop-i.invariant.1 c.copy_item-x.ensures c.loop-i.invariant.2)
 
 pub returns : goal.returns
 returns c = let a = c.args in

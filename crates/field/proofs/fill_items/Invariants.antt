@@ -3,7 +3,7 @@ use Prim.Native.Nat.{◌+◌, ◌*◌, ◌-◌, ◌≤◌}
 use Rattle.lists.specs.Lists.{padded}
 use Rattle.item.specs.Item.{zero_item}
 use Rattle.cursor.specs.Spans.{list_of}
-use Rattle.cursor.proofs.Laws.{list-more}
+use Rattle.cursor.proofs.Laws.{list_more}
 use Rattle.field.specs.Field.{item_of}
 use Rattle.field.proofs.Laws.{items_none, items_is}
 use mathlib.Core.Path.{◌≡◌}

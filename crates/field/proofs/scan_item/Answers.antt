@@ -1,5 +1,5 @@
 use native.Mathlib.Omega.{arith}
-use Rattle.field.proofs.Laws.{place_short, place-got, place-bad}
+use Rattle.field.proofs.Laws.{place_short, place_got, place_bad}
 use mathlib.Core.Path.{sym, ◌∙◌}
 use borrow.Author.Rules.{rules}
 use Rattle.field.proofs.scan_item.Goals as goal
@@ -11,7 +11,7 @@ pub returns-then-len-at-lt33 : goal.returns-then-len-at-lt33
 returns-then-len-at-lt33 c = sym (place_short _ _ _ (omega arith))
 
 pub returns-then-fits : goal.returns-then-fits
-returns-then-fits c = sym (place-got _ _ _ (omega arith) (sym c.fits.ensures ∙ c.if-fits.true))
+returns-then-fits c = sym (place_got _ _ _ (omega arith) (sym c.fits.ensures ∙ c.if-fits.true))
 
 pub returns-else-fits : goal.returns-else-fits
-returns-else-fits c = sym (place-bad _ _ _ (omega arith) (sym c.fits.ensures ∙ c.if-fits.false))
+returns-else-fits c = sym (place_bad _ _ _ (omega arith) (sym c.fits.ensures ∙ c.if-fits.false))

@@ -3,7 +3,7 @@ use Prim.Native.Nat.{◌-◌, ◌≤◌}
 use native.Mathlib.Nat.{sub-zero}
 use Rattle.cursor.specs.Cursor.{is8}
 use Rattle.cursor.specs.Spans.{runs}
-use Rattle.cursor.proofs.Laws.{runs-more, runs-stop, runs-end, span-short, span-many, span-bad, span-got}
+use Rattle.cursor.proofs.Laws.{runs_more, runs_stop, runs-end, span_short, span_many, span_bad, span_got}
 use Rattle.field.specs.Field.{place_is, entry_at}
 use mathlib.Core.Path.{◌≡◌, sym, ◌∙◌, ap}
 use Rattle.field.proofs.scan_list.Given as goal

@@ -1,10 +1,10 @@
-use Rattle.in_place.proofs.Folds.{asked-state, asked-nothing, asked-bad}
+use Rattle.in_place.proofs.Folds.{asked_state, asked-nothing, asked_bad}
 use borrow.Author.Rules.{rules}
 use Rattle.in_place.proofs.ask.Goals as goal
 
 pub returns-in-Of : goal.returns-in-Of
 returns-in-Of c = let s = c.args.state.now in
-    asked-state s c.in_bytes.ensures.result_value _ _ c.in-Of.is c.from_u64-b.ensures
+    asked_state s c.in_bytes.ensures.result_value _ _ c.in-Of.is c.from_u64-b.ensures
 
 pub returns-in-Nothing : goal.returns-in-Nothing
 returns-in-Nothing c = let s = c.args.state.now in
@@ -12,4 +12,4 @@ returns-in-Nothing c = let s = c.args.state.now in
 
 pub returns-in-No : goal.returns-in-No
 returns-in-No c = let s = c.args.state.now in
-    asked-bad s c.in_bytes.ensures.result_value _ _ c.in-No.is c.in_bytes.ensures.framed c.refuse-in-No.ensures
+    asked_bad s c.in_bytes.ensures.result_value _ _ c.in-No.is c.in_bytes.ensures.framed c.refuse-in-No.ensures

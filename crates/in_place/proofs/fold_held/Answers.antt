@@ -5,8 +5,8 @@ use Rattle.record.specs.Marks.{event_of}
 use Rattle.fold_record.specs.Steps.{content_folded}
 use Rattle.found.specs.declared.Read as R
 use Rattle.in_place.specs.Steps.{state_at}
-use Rattle.in_place.proofs.Held.{placed_as, read_left, unread-left}
-use Rattle.in_place.proofs.Folds.{interaction-settled, delegated-inception, delegated-rotation, snapshot-settled}
+use Rattle.in_place.proofs.Held.{placed_as, read_left, unread_left}
+use Rattle.in_place.proofs.Folds.{interaction-settled, delegated-inception, delegated-rotation, snapshot_settled}
 use borrow.Author.Rules.{rules}
 use Rattle.in_place.proofs.fold_held.Goals as goal
 
@@ -24,8 +24,8 @@ returns-in-DelegatedRotation c = let a = c.args in
 
 pub returns-in-Snapshot : goal.returns-in-Snapshot
 returns-in-Snapshot c = let a = c.args in
-    snapshot-settled a.state.now a.used.now (holding (state_at a.state.now a.used.now a.sm)) a.mark a.s.now c.by_mark.ensures.result_value _ c.in-Snapshot.is c.refuse-in-Snapshot.ensures
+    snapshot_settled a.state.now a.used.now (holding (state_at a.state.now a.used.now a.sm)) a.mark a.s.now c.by_mark.ensures.result_value _ c.in-Snapshot.is c.refuse-in-Snapshot.ensures
 
 pub returns-in-No : goal.returns-in-No
 returns-in-No c = let a = c.args in
-    unread-left a.state.now a.used.now (content_folded (holding (state_at a.state.now a.used.now a.sm))) a.mark a.s.now c.by_mark.ensures.result_value (holding (state_at a.state.now a.used.now a.sm)) _ refl c.in-No.is c.refuse-in-No.ensures
+    unread_left a.state.now a.used.now (content_folded (holding (state_at a.state.now a.used.now a.sm))) a.mark a.s.now c.by_mark.ensures.result_value (holding (state_at a.state.now a.used.now a.sm)) _ refl c.in-No.is c.refuse-in-No.ensures

@@ -2,8 +2,8 @@ use mathlib.Core.Path.{refl}
 use Rattle.empty.specs.Empty.{nothing}
 use Rattle.fold_record.specs.Steps.{content_folded}
 use Rattle.found.specs.declared.Read as R
-use Rattle.in_place.proofs.Held.{placed_as, read_left, read_answer, unread-left}
-use Rattle.in_place.proofs.Folds.{no-rotation, no-interaction, delegated-inception, delegated-rotation, snapshot-settled}
+use Rattle.in_place.proofs.Held.{placed_as, read_left, read_answer, unread_left}
+use Rattle.in_place.proofs.Folds.{no-rotation, no-interaction, delegated-inception, delegated-rotation, snapshot_settled}
 use borrow.Author.Rules.{rules}
 use Rattle.in_place.proofs.fold_nothing.Goals as goal
 
@@ -25,8 +25,8 @@ returns-in-DelegatedRotation c = let a = c.args in
 
 pub returns-in-Snapshot : goal.returns-in-Snapshot
 returns-in-Snapshot c = let a = c.args in
-    snapshot-settled a.state.now a.used.now nothing a.mark a.s.now c.by_mark.ensures.result_value _ c.in-Snapshot.is c.refuse-in-Snapshot.ensures
+    snapshot_settled a.state.now a.used.now nothing a.mark a.s.now c.by_mark.ensures.result_value _ c.in-Snapshot.is c.refuse-in-Snapshot.ensures
 
 pub returns-in-No : goal.returns-in-No
 returns-in-No c = let a = c.args in
-    unread-left a.state.now a.used.now (content_folded nothing) a.mark a.s.now c.by_mark.ensures.result_value nothing _ refl c.in-No.is c.refuse-in-No.ensures
+    unread_left a.state.now a.used.now (content_folded nothing) a.mark a.s.now c.by_mark.ensures.result_value nothing _ refl c.in-No.is c.refuse-in-No.ensures

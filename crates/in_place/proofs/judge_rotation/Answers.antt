@@ -3,7 +3,7 @@ use mathlib.Core.Path.{◌∙◌, ap}
 use mathlib.Core.List.{List}
 use Prim.Native.Nat.{ℕ}
 use lib.ListN.{length}
-use Rattle.in_place.proofs.Parts.{four-used}
+use Rattle.in_place.proofs.Parts.{four_used}
 use Rattle.in_place.proofs.Held.{run}
 use Rattle.event.specs.declared.Ilk.TheVariants.{Rotation}
 use Rattle.parts.specs.Parts.{body_of}

@@ -1,6 +1,6 @@
 use Prim.Native.Nat.{◌≤◌}
 use lib.ListN.{length}
-use Rattle.found.proofs.Laws.{first-is, first-within}
+use Rattle.found.proofs.Laws.{first_is_lem, first-within}
 use Rattle.in_place.proofs.Held.{each_of, each_as}
 use Rattle.in_place.proofs.Answers.{offer-short, offer-first}
 use borrow.Author.Rules.{rules}
@@ -9,10 +9,10 @@ use Rattle.in_place.proofs.offer.Goals as goal
 pub returns-in_default : goal.returns-in_default
 returns-in_default c = let a = c.args in
     let held = c.in_buffer-held in
-    let first = first-is a.input.now _ c.in_default.is c.first_record.ensures.result_value in
+    let first = first_is_lem a.input.now _ c.in_default.is c.first_record.ensures.result_value in
     let facts = each_of (offer-short a.state.now a.used.now held.result held.ensures.result_value held.ensures.framed held.ensures.room a.input.now first c.instead.ensures) in record { value = facts.0; state_after = facts.1.0; used_after = facts.1.1 }
 
 pub returns : goal.returns
 returns c = let a = c.args in
-    let first = first-is a.input.now _ c.in-Of.is c.first_record.ensures.result_value in
+    let first = first_is_lem a.input.now _ c.in-Of.is c.first_record.ensures.result_value in
     let facts = each_as (offer-first a.state.now a.used.now a.input.now c.in-Of.mark c.in-Of.next first) (c.offer_body.ensures.value, (c.offer_body.ensures.state_after, c.offer_body.ensures.used_after)) in record { value = facts.0; state_after = facts.1.0; used_after = facts.1.1 }

@@ -7,8 +7,8 @@ use Rattle.record.specs.Marks.{state_of, event_of}
 use Rattle.receive.specs.Judged.{content_judged}
 use Rattle.found.specs.declared.Read as R
 use Rattle.in_place.specs.Steps.{state_at}
-use Rattle.in_place.proofs.Held.{placed_as, read_left, read_answer, unread-left}
-use Rattle.in_place.proofs.Answers.{away-left, held-snapshot}
+use Rattle.in_place.proofs.Held.{placed_as, read_left, read_answer, unread_left}
+use Rattle.in_place.proofs.Answers.{away-left, held_snapshot}
 use borrow.Author.Rules.{rules}
 use Rattle.in_place.proofs.offer_held.Goals as goal
 
@@ -34,9 +34,9 @@ pub returns-in-Snapshot : goal.returns-in-Snapshot
 returns-in-Snapshot c = let a = c.args in
     let s = state_at a.state.now a.used.now a.sm in
     read_answer a.state.now a.used.now (content_judged (holding s)) a.mark a.s.now c.by_mark.ensures.result_value (R.TheVariants.Snapshot _) c.in-Snapshot.is c.refuse.ensures
-    (held-snapshot a.state.now a.used.now s (state_of a.s.now c.in-Snapshot.field-0))
+    (held_snapshot a.state.now a.used.now s (state_of a.s.now c.in-Snapshot.field-0))
 
 pub returns-in-No : goal.returns-in-No
 returns-in-No c = let a = c.args in
     let s = state_at a.state.now a.used.now a.sm in
-    unread-left a.state.now a.used.now (content_judged (holding s)) a.mark a.s.now c.by_mark.ensures.result_value (holding s) _ refl c.in-No.is c.refuse-in-No.ensures
+    unread_left a.state.now a.used.now (content_judged (holding s)) a.mark a.s.now c.by_mark.ensures.result_value (holding s) _ refl c.in-No.is c.refuse-in-No.ensures

@@ -6,8 +6,8 @@ use Rattle.layout.specs.Records.{delegated}
 use Rattle.record.specs.Marks.{state_of, event_of}
 use Rattle.receive.specs.Judged.{content_judged}
 use Rattle.found.specs.declared.Read as R
-use Rattle.in_place.proofs.Held.{placed_as, read_left, read_answer, unread-left}
-use Rattle.in_place.proofs.Answers.{nothing-away, nothing-snapshot}
+use Rattle.in_place.proofs.Held.{placed_as, read_left, read_answer, unread_left}
+use Rattle.in_place.proofs.Answers.{nothing-away, nothing_snapshot}
 use borrow.Author.Rules.{rules}
 use Rattle.in_place.proofs.offer_nothing.Goals as goal
 
@@ -33,8 +33,8 @@ returns-in-DelegatedRotation c = let a = c.args in
 
 pub returns-in-Snapshot : goal.returns-in-Snapshot
 returns-in-Snapshot c = let a = c.args in
-    read_left a.state.now a.used.now (content_judged nothing) a.mark a.s.now c.by_mark.ensures.result_value (R.TheVariants.Snapshot _) c.in-Snapshot.is (c.take_in.ensures ∙ nothing-snapshot a.state.now a.used.now nothing.state (state_of a.s.now c.in-Snapshot.m))
+    read_left a.state.now a.used.now (content_judged nothing) a.mark a.s.now c.by_mark.ensures.result_value (R.TheVariants.Snapshot _) c.in-Snapshot.is (c.take_in.ensures ∙ nothing_snapshot a.state.now a.used.now nothing.state (state_of a.s.now c.in-Snapshot.m))
 
 pub returns-in-No : goal.returns-in-No
 returns-in-No c = let a = c.args in
-    unread-left a.state.now a.used.now (content_judged nothing) a.mark a.s.now c.by_mark.ensures.result_value nothing _ refl c.in-No.is c.refuse-in-No.ensures
+    unread_left a.state.now a.used.now (content_judged nothing) a.mark a.s.now c.by_mark.ensures.result_value nothing _ refl c.in-No.is c.refuse-in-No.ensures

@@ -4,7 +4,7 @@ use native.Mathlib.Omega.{arith}
 use lib.ListN.{length, drop, take}
 use Rattle.lists.specs.Lists.{first_from}
 use Rattle.item.specs.Item.{same_item}
-use Rattle.lists.proofs.Walks.{head_at, used-end, array_end, first-here, first_next, first-end}
+use Rattle.lists.proofs.Walks.{head_at, used-end, array_end, first_here, first_next, first-end}
 use Rattle.items.specs.Items.{listed}
 use Rattle.items.proofs.Laws.{no_item, places-16}
 use borrow.Author.Rules.{rules}
@@ -16,7 +16,7 @@ returns-then-n-i c = let a = c.args in
 
 pub returns-then-same : goal.returns-then-same
 returns-then-same c = let a = c.args in
-    sym (c.loop-i.invariant.1.1 ∙ first-here (same_item a.x) (listed a.l) _ c.loop-i.i (head_at no_item a.l.at a.l.count c.loop-i.i (omega arith) (omega arith)) (sym c.same.ensures ∙ c.if-same.true))
+    sym (c.loop-i.invariant.1.1 ∙ first_here (same_item a.x) (listed a.l) _ c.loop-i.i (head_at no_item a.l.at a.l.count c.loop-i.i (omega arith) (omega arith)) (sym c.same.ensures ∙ c.if-same.true))
 
 pub loop-i-preserved : goal.loop-i-preserved
 loop-i-preserved c = let a = c.args in

@@ -4,7 +4,7 @@ use native.Mathlib.Omega.{arith}
 use borrow.Author.Tests.{not-true, not-false}
 use lib.ListN.{length, drop}
 use Rattle.lists.specs.Lists.{all}
-use Rattle.lists.proofs.Walks.{head_of, all-stop, all-next, all_end}
+use Rattle.lists.proofs.Walks.{head_of, all_stop, all-next, all_end}
 use Rattle.item.specs.Item.{is_zero}
 use Rattle.items.proofs.Laws.{no_item, places-16}
 use borrow.Author.Rules.{rules}
@@ -12,7 +12,7 @@ use Rattle.items.proofs.unused_zero.Goals as goal
 
 pub returns-then-not-is_zero : goal.returns-then-not-is_zero
 returns-then-not-is_zero c = let a = c.args in
-    sym (c.loop-i.invariant.1 ∙ all-stop is_zero a.l.at _ c.loop-i.i (head_of no_item a.l.at c.loop-i.i (omega arith)) (sym c.is_zero.ensures ∙ c.if-not-is_zero.true))
+    sym (c.loop-i.invariant.1 ∙ all_stop is_zero a.l.at _ c.loop-i.i (head_of no_item a.l.at c.loop-i.i (omega arith)) (sym c.is_zero.ensures ∙ c.if-not-is_zero.true))
 
 pub loop-i-preserved : goal.loop-i-preserved
 loop-i-preserved c = let a = c.args in

@@ -5,7 +5,7 @@ use lib.ListN.{length, drop, take}
 use borrow.Author.Tests.{not-true, not-false}
 use Rattle.lists.specs.Lists.{all}
 use Rattle.item.specs.Item.{item_fits}
-use Rattle.lists.proofs.Walks.{head_at, used-end, array_end, all-stop, all-next, all_end}
+use Rattle.lists.proofs.Walks.{head_at, used-end, array_end, all_stop, all-next, all_end}
 use Rattle.items.specs.Items.{listed}
 use Rattle.items.proofs.Laws.{no_item, places-16}
 use borrow.Author.Rules.{rules}
@@ -17,7 +17,7 @@ returns-then-n-i c = let a = c.args in
 
 pub returns-then-not-fits : goal.returns-then-not-fits
 returns-then-not-fits c = let a = c.args in
-    sym (c.loop-i.invariant.1.1 ∙ all-stop (item_fits a.kind) (listed a.l) _ c.loop-i.i (head_at no_item a.l.at a.l.count c.loop-i.i (omega arith) (omega arith)) (sym c.fits.ensures ∙ c.if-not-fits.true))
+    sym (c.loop-i.invariant.1.1 ∙ all_stop (item_fits a.kind) (listed a.l) _ c.loop-i.i (head_at no_item a.l.at a.l.count c.loop-i.i (omega arith) (omega arith)) (sym c.fits.ensures ∙ c.if-not-fits.true))
 
 pub loop-i-preserved : goal.loop-i-preserved
 loop-i-preserved c = let a = c.args in

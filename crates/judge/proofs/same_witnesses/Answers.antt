@@ -2,7 +2,7 @@ use mathlib.Core.Path.{◌∙◌, ap}
 use Rattle.items.specs.declared.Items.{Items}
 use Rattle.items.specs.Items.{listed}
 use Rattle.judge.specs.Parts.{list_at}
-use Rattle.judge.proofs.Laws.{packed-at, listed-few, listed-count, same-toad, same-receipts, same-goes}
+use Rattle.judge.proofs.Laws.{packed_at, listed_few, listed-count, same_toad, same-receipts, same_goes}
 use borrow.Author.Rules.{rules}
 use Rattle.judge.proofs.same_witnesses.Goals as goal
 
@@ -11,19 +11,19 @@ returns-then-x-ne0 c = let a = c.args in
     let s = a.st.now in
     let n = a.old.count in
     let p = a.old.first in
-    c.unchanged.ensures ∙ same-toad (listed (list_at s a.old)) (listed-few s n p) a.toad a.v _ (c.count-n.ensures ∙ listed-count s n p) _ c.check_witness_threshold-x.ensures c.if-x-ne0.true
+    c.unchanged.ensures ∙ same_toad (listed (list_at s a.old)) (listed_few s n p) a.toad a.v _ (c.count-n.ensures ∙ listed-count s n p) _ c.check_witness_threshold-x.ensures c.if-x-ne0.true
 
 pub returns-then-y-ne0 : goal.returns-then-y-ne0
 returns-then-y-ne0 c = let a = c.args in
     let s = a.st.now in
     let n = a.old.count in
     let p = a.old.first in
-    c.unchanged-then-y-ne0.ensures ∙ same-receipts (listed (list_at s a.old)) (listed-few s n p) a.toad a.v _ (c.count-n.ensures ∙ listed-count s n p) _ c.check_witness_threshold-x.ensures c.if-x-ne0.false _ c.receipted-y.ensures c.if-y-ne0.true
+    c.unchanged-then-y-ne0.ensures ∙ same-receipts (listed (list_at s a.old)) (listed_few s n p) a.toad a.v _ (c.count-n.ensures ∙ listed-count s n p) _ c.check_witness_threshold-x.ensures c.if-x-ne0.false _ c.receipted-y.ensures c.if-y-ne0.true
 
 pub returns : goal.returns
 returns c = let a = c.args in
     let s = a.st.now in
     let n = a.old.count in
     let p = a.old.first in
-    ap (λ (l : Items). record { answer = c.receipted-y.result; list = l }) (c.copy_items-list.ensures ∙ packed-at s n p)
-    ∙ same-goes (listed (list_at s a.old)) (listed-few s n p) a.toad a.v _ (c.count-n.ensures ∙ listed-count s n p) _ c.check_witness_threshold-x.ensures c.if-x-ne0.false _ c.receipted-y.ensures c.if-y-ne0.false
+    ap (λ (l : Items). record { answer = c.receipted-y.result; list = l }) (c.copy_items-list.ensures ∙ packed_at s n p)
+    ∙ same_goes (listed (list_at s a.old)) (listed_few s n p) a.toad a.v _ (c.count-n.ensures ∙ listed-count s n p) _ c.check_witness_threshold-x.ensures c.if-x-ne0.false _ c.receipted-y.ensures c.if-y-ne0.false

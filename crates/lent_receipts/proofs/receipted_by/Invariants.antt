@@ -1,6 +1,6 @@
 -- Before the receipt at i the tally is that of the first i; the search at j has passed no copy of the receipt at i.
 use Rattle.std.proofs.Common.{◌≡◌, ◌≤◌, ◌-◌, length}
-use Rattle.lent_receipts.proofs.Laws.{tallyAt, Unlike}
+use Rattle.lent_receipts.proofs.Laws.{tally_at, Unlike}
 use Rattle.lent_receipts.proofs.receipted_by.Given as goal
 
 abbrev pub invariant-loop-j : goal.invariant-loop-j
@@ -10,7 +10,7 @@ abbrev pub decreases-loop-j : goal.decreases-loop-j
 decreases-loop-j l = l.i - l.j
 
 abbrev pub invariant-loop-i : goal.invariant-loop-i
-invariant-loop-i l = l.t ≡ tallyAt l.witnesses l.receipts l.i
+invariant-loop-i l = l.t ≡ tally_at l.witnesses l.receipts l.i
 
 abbrev pub decreases-loop-i : goal.decreases-loop-i
 decreases-loop-i l = length l.receipts - l.i

@@ -1,6 +1,6 @@
 use native.Mathlib.Nat.{mod-lt}
 use Rattle.lines.proofs.Laws.{digits_made, length_digits}
-use Rattle.writer.proofs.Laws.{digits-less, digits-end}
+use Rattle.writer.proofs.Laws.{digits_less, digits-end}
 use Rattle.lines.specs.Lines.{digits}
 use Rattle.writer.specs.Writing.{over}
 use mathlib.Core.Path.{◌≡◌}
@@ -16,7 +16,7 @@ loop-i-init c = (search rules, rw length_digits at c.requires.room, search rules
 pub loop-i-preserved : goal.loop-i-preserved
 loop-i-preserved c = let a = c.args in
     let l = c.loop-i in
-    (search rules, search rules, search rules, rw c.glyph.ensures (digits-less (digits_made a.base) _ a.at l.buf l.i l.rest (omega arith) (omega arith) l.invariant.3))
+    (search rules, search rules, search rules, rw c.glyph.ensures (digits_less (digits_made a.base) _ a.at l.buf l.i l.rest (omega arith) (omega arith) l.invariant.3))
 
 pub returns : goal.returns
 returns c = let l = c.loop-i in digits-end (digits_made _) _ _ _ _ _ l.i l.rest (omega arith) l.invariant.3

@@ -1,6 +1,6 @@
 use native.Mathlib.Nat.{mod-lt}
 use Rattle.lines.proofs.Laws.{digits_made, length_digits}
-use Rattle.writer.proofs.Laws.{digits-less, digits-end}
+use Rattle.writer.proofs.Laws.{digits_less, digits-end}
 use Rattle.lines.specs.Lines.{digits}
 use Rattle.writer.specs.Writing.{over}
 use mathlib.Core.Path.{◌≡◌}

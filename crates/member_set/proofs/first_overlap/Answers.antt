@@ -10,7 +10,7 @@ use Rattle.item.specs.declared.Item.{Item}
 use Rattle.item.specs.Item.{same_item}
 use Rattle.items.specs.Items.{listed, member}
 use Rattle.items.proofs.Laws.{no_item, places-16}
-use Rattle.member_set.proofs.Laws.{found_here, found-next, found_none}
+use Rattle.member_set.proofs.Laws.{found_here, found_next, found_none}
 use borrow.Author.Rules.{rules}
 use Rattle.member_set.proofs.first_overlap.Goals as goal
 
@@ -24,7 +24,7 @@ search-preserved c = let a = c.args in
     let ys = take c.used-m.result a.ys.at in
     let x = get_or a.xs.at c.search.i no_item in
     let none : member ys x ≡ false = c.loop-j.invariant ∙ any-end (same_item x) ys c.loop-j.j (used-end a.ys.at c.used-m.result c.loop-j.j c.loop-j-test.false) in
-    (c.search.invariant.0, (c.search.invariant.1.0, found-next (member ys) no_item a.xs.at (listed a.xs) c.used-n.result c.search.i c.used-n.ensures.1 c.search.invariant.1.1 (omega arith) (omega arith) none))
+    (c.search.invariant.0, (c.search.invariant.1.0, found_next (member ys) no_item a.xs.at (listed a.xs) c.used-n.result c.search.i c.used-n.ensures.1 c.search.invariant.1.1 (omega arith) (omega arith) none))
 
 pub returns-then-n-i : goal.returns-then-n-i
 returns-then-n-i c = let a = c.args in

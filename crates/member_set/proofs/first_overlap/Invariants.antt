@@ -10,7 +10,7 @@ use Rattle.item.specs.declared.Item.{Item}
 use Rattle.item.specs.Item.{same_item}
 use Rattle.items.specs.Items.{listed, member}
 use Rattle.items.proofs.Laws.{no_item, places-16}
-use Rattle.member_set.proofs.Laws.{found_here, found-next, found_none}
+use Rattle.member_set.proofs.Laws.{found_here, found_next, found_none}
 use Rattle.member_set.proofs.first_overlap.Given as goal
 
 abbrev pub invariant-loop-j : goal.invariant-loop-j

@@ -6,7 +6,7 @@ use lib.ListN.{length, drop, take}
 use Rattle.items.specs.Items.{listed}
 use Rattle.items.proofs.Laws.{places-16}
 use Rattle.member_set.specs.Members.{repeat_from}
-use Rattle.member_set.proofs.Laws.{repeat-here, repeat-next, repeat-none}
+use Rattle.member_set.proofs.Laws.{repeat_here, repeat_next, repeat_none}
 use Rattle.member_set.proofs.first_repeat.Given as goal
 
 abbrev pub invariant-loop-i : goal.invariant-loop-i

@@ -6,7 +6,7 @@ use Rattle.lists.specs.Lists.{first_from}
 use Rattle.item.specs.Item.{is_transferable}
 use Rattle.items.specs.Items.{listed}
 use Rattle.items.proofs.Laws.{no_item, places-16}
-use Rattle.member_set.proofs.Laws.{found_here, found-next, found_none}
+use Rattle.member_set.proofs.Laws.{found_here, found_next, found_none}
 use borrow.Author.Rules.{rules}
 use Rattle.member_set.proofs.first_transferable.Goals as goal
 
@@ -16,7 +16,7 @@ returns-then-is_transferable c = let a = c.args in
 
 pub loop-i-preserved : goal.loop-i-preserved
 loop-i-preserved c = let a = c.args in
-    (c.loop-i.invariant.0, found-next is_transferable no_item a.l.at (listed a.l) c.used-n.result c.loop-i.i c.used-n.ensures.1 c.loop-i.invariant.1 (omega arith) (omega arith) (sym c.is_transferable.ensures ∙ c.if-is_transferable.false))
+    (c.loop-i.invariant.0, found_next is_transferable no_item a.l.at (listed a.l) c.used-n.result c.loop-i.i c.used-n.ensures.1 c.loop-i.invariant.1 (omega arith) (omega arith) (sym c.is_transferable.ensures ∙ c.if-is_transferable.false))
 
 pub returns : goal.returns
 returns c = let a = c.args in

@@ -5,18 +5,18 @@ use Rattle.layout.specs.Records.{latest_at}
 use Rattle.cursor.specs.Cursor.{is8}
 use Rattle.parts.specs.Parts.{body_is, head_is}
 use Rattle.record.specs.Marks.{state_of, last_is, refusal_of_body, snapshot_places}
-use Rattle.record.proofs.Laws.{snapshot-value, with_value}
+use Rattle.record.proofs.Laws.{snapshot_value, with_value}
 use borrow.Author.Rules.{rules}
 use Rattle.record.proofs.scan_snapshot.Goals as goal
 
 pub returns-in_default : goal.returns-in_default
 unfolding snapshot_places latest_at
-returns-in_default c = let facts = with_value (state_of _) (snapshot-value _ _)
+returns-in_default c = let facts = with_value (state_of _) (snapshot_value _ _)
     (rw (sym c.scan_first_head.ensures ∙ ap head_is c.in_default.is)) in record { result_value = facts.0; result_value_2 = facts.1 }
 
 pub returns-in_default-read_u8 : goal.returns-in_default-read_u8
 unfolding snapshot_places latest_at
-returns-in_default-read_u8 c = let facts = with_value (state_of _) (snapshot-value _ _)
+returns-in_default-read_u8 c = let facts = with_value (state_of _) (snapshot_value _ _)
     (rw (
       sym c.scan_first_head.ensures ∙ ap head_is c.in-Of.is,
       sym c.read_u8.ensures ∙ ap is8 c.in_default-read_u8.is,
@@ -24,7 +24,7 @@ returns-in_default-read_u8 c = let facts = with_value (state_of _) (snapshot-val
 
 pub returns-then-latest-gt2 : goal.returns-then-latest-gt2
 unfolding snapshot_places latest_at
-returns-then-latest-gt2 c = let facts = with_value (state_of _) (snapshot-value _ _)
+returns-then-latest-gt2 c = let facts = with_value (state_of _) (snapshot_value _ _)
     (rw (
       sym c.scan_first_head.ensures ∙ ap head_is c.in-Of.is,
       sym c.read_u8.ensures ∙ ap is8 c.in-Of-read_u8.is,
@@ -33,7 +33,7 @@ returns-then-latest-gt2 c = let facts = with_value (state_of _) (snapshot-value 
 
 pub returns-in_default-middle : goal.returns-in_default-middle
 unfolding snapshot_places latest_at
-returns-in_default-middle c = let facts = with_value (state_of _) (snapshot-value _ _)
+returns-in_default-middle c = let facts = with_value (state_of _) (snapshot_value _ _)
     (rw (
       sym c.scan_first_head.ensures ∙ ap head_is c.in-Of.is,
       sym c.read_u8.ensures ∙ ap is8 c.in-Of-read_u8.is,
@@ -44,7 +44,7 @@ returns-in_default-middle c = let facts = with_value (state_of _) (snapshot-valu
 
 pub returns-in_default-scan_last : goal.returns-in_default-scan_last
 unfolding snapshot_places latest_at
-returns-in_default-scan_last c = let facts = with_value (state_of _) (snapshot-value _ _)
+returns-in_default-scan_last c = let facts = with_value (state_of _) (snapshot_value _ _)
     (rw (
       sym c.scan_first_head.ensures ∙ ap head_is c.in-Of.is,
       sym c.read_u8.ensures ∙ ap is8 c.in-Of-read_u8.is,
@@ -55,7 +55,7 @@ returns-in_default-scan_last c = let facts = with_value (state_of _) (snapshot-v
 
 pub returns : goal.returns
 unfolding snapshot_places latest_at
-returns c = let facts = with_value (state_of _) (snapshot-value _ _)
+returns c = let facts = with_value (state_of _) (snapshot_value _ _)
     (rw (
       sym c.scan_first_head.ensures ∙ ap head_is c.in-Of.is,
       sym c.read_u8.ensures ∙ ap is8 c.in-Of-read_u8.is,

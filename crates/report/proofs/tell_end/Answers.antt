@@ -1,4 +1,4 @@
-use Rattle.report.proofs.Laws.{ended_at, ended-nothing, ended-bad}
+use Rattle.report.proofs.Laws.{ended_at, ended-nothing, ended_bad}
 use borrow.Author.Rules.{rules}
 use Rattle.report.proofs.tell_end.Goals as goal
 
@@ -15,4 +15,4 @@ returns-in-Nothing c = let a = c.args in
 pub returns-in-No : goal.returns-in-No
 returns-in-No c = let a = c.args in
     let is = c.in_buffer.ensures.result_value in
-    let facts = ended-bad a.t a.state.now a.used _ is a.at a.out.now _ c.in-No.is _ (c.end_line-in-No.ensures.value, c.end_line-in-No.ensures.out_after) in record { value = facts.0; out_after = facts.1 }
+    let facts = ended_bad a.t a.state.now a.used _ is a.at a.out.now _ c.in-No.is _ (c.end_line-in-No.ensures.value, c.end_line-in-No.ensures.out_after) in record { value = facts.0; out_after = facts.1 }

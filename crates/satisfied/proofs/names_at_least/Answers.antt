@@ -2,7 +2,7 @@ use mathlib.Core.Path.{◌≡◌, sym, ◌∙◌}
 use Prim.Native.Nat.{◌+◌, ◌-◌}
 use lib.ListN.{length, drop}
 use lib.Dec.{leb}
-use Rattle.satisfied.proofs.Laws.{named, count-start, count-again, count-new, count-enough, count-end}
+use Rattle.satisfied.proofs.Laws.{named, count-start, count-again, count_new, count-enough, count-end}
 use borrow.Author.Rules.{rules}
 use Rattle.satisfied.proofs.names_at_least.Goals as goal
 
@@ -13,4 +13,4 @@ pub loop-count-preserved-then-named_from : goal.loop-count-preserved-then-named_
 loop-count-preserved-then-named_from c = let a = c.args in count-again a.ps.now a.need c.loop-count.count c.loop-count.i c.if-ps-i.false (sym c.named_from.ensures ∙ c.if-named_from.true) ∙ c.loop-count.invariant
 
 pub loop-count-preserved : goal.loop-count-preserved
-loop-count-preserved c = let a = c.args in count-new a.ps.now a.need c.loop-count.count c.loop-count.i c.if-ps-i.false (sym c.named_from.ensures ∙ c.if-named_from.false) ∙ c.loop-count.invariant
+loop-count-preserved c = let a = c.args in count_new a.ps.now a.need c.loop-count.count c.loop-count.i c.if-ps-i.false (sym c.named_from.ensures ∙ c.if-named_from.false) ∙ c.loop-count.invariant

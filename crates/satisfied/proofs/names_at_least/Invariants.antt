@@ -2,7 +2,7 @@ use mathlib.Core.Path.{◌≡◌, sym, ◌∙◌}
 use Prim.Native.Nat.{◌+◌, ◌-◌}
 use lib.ListN.{length, drop}
 use lib.Dec.{leb}
-use Rattle.satisfied.proofs.Laws.{named, count-start, count-again, count-new, count-enough, count-end}
+use Rattle.satisfied.proofs.Laws.{named, count-start, count-again, count_new, count-enough, count-end}
 use Rattle.satisfied.proofs.names_at_least.Given as goal
 
 abbrev pub invariant-loop-count : goal.invariant-loop-count

@@ -2,7 +2,7 @@ use mathlib.Core.Path.{sym, ◌∙◌}
 use lib.ListN.{length}
 use borrow.Author.Tests.{not-true, not-false}
 use Rattle.threshold.proofs.Laws.{weights_16}
-use Rattle.satisfied.proofs.Laws.{by_shape, by_fall, of-set, by_list}
+use Rattle.satisfied.proofs.Laws.{by_shape, by_fall, of_set, by_list}
 use borrow.Author.Rules.{rules}
 use Rattle.satisfied.proofs.satisfied_by_sorted_unique.Goals as goal
 
@@ -15,5 +15,5 @@ returns-then-not-is_rising c = by_fall c.args.t c.args.ps.now (sym c.shape.ensur
 pub returns : goal.returns
 returns c = let t = c.args.t in
     let ps = c.args.ps.now in
-    of-set t ps (length ps) _ _ (weights_16 t _ c.well_formed.0) c.set_of-set.ensures c.judge.ensures
+    of_set t ps (length ps) _ _ (weights_16 t _ c.well_formed.0) c.set_of-set.ensures c.judge.ensures
     ∙ by_list t ps (sym c.shape.ensures ∙ c.if-shape-ne0.false) (sym c.is_rising.ensures ∙ c.if-not-is_rising.false)

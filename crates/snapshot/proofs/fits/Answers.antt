@@ -1,24 +1,24 @@
 use mathlib.Core.Path.{sym}
-use Rattle.snapshot.proofs.Assembled.{many-witnesses, many-traits, long-point, long-last, by-signers}
+use Rattle.snapshot.proofs.Assembled.{many_witnesses, many_traits, long_point, long_last, by_signers}
 use borrow.Author.Rules.{rules}
 use Rattle.snapshot.proofs.fits.Goals as goal
 
 pub returns-then-witnesses-gt16 : goal.returns-then-witnesses-gt16
 returns-then-witnesses-gt16 c = let a = c.args in
-    sym (many-witnesses a.x a.point.now a.signers.now a.last.now c.if-witnesses-gt16.true)
+    sym (many_witnesses a.x a.point.now a.signers.now a.last.now c.if-witnesses-gt16.true)
 
 pub returns-then-config-gt8 : goal.returns-then-config-gt8
 returns-then-config-gt8 c = let a = c.args in
-    sym (many-traits a.x a.point.now a.signers.now a.last.now c.if-witnesses-gt16.false c.if-config-gt8.true)
+    sym (many_traits a.x a.point.now a.signers.now a.last.now c.if-witnesses-gt16.false c.if-config-gt8.true)
 
 pub returns-then-point-gt49 : goal.returns-then-point-gt49
 returns-then-point-gt49 c = let a = c.args in
-    sym (long-point a.x a.point.now a.signers.now a.last.now c.if-witnesses-gt16.false c.if-config-gt8.false c.if-point-gt49.true)
+    sym (long_point a.x a.point.now a.signers.now a.last.now c.if-witnesses-gt16.false c.if-config-gt8.false c.if-point-gt49.true)
 
 pub returns-then-last-gt49 : goal.returns-then-last-gt49
 returns-then-last-gt49 c = let a = c.args in
-    sym (long-last a.x a.point.now a.signers.now a.last.now c.if-witnesses-gt16.false c.if-config-gt8.false c.if-point-gt49.false c.if-last-gt49.true)
+    sym (long_last a.x a.point.now a.signers.now a.last.now c.if-witnesses-gt16.false c.if-config-gt8.false c.if-point-gt49.false c.if-last-gt49.true)
 
 pub returns : goal.returns
 returns c = let a = c.args in
-    sym (by-signers a.x a.point.now a.signers.now a.last.now c.if-witnesses-gt16.false c.if-config-gt8.false c.if-point-gt49.false c.if-last-gt49.false)
+    sym (by_signers a.x a.point.now a.signers.now a.last.now c.if-witnesses-gt16.false c.if-config-gt8.false c.if-point-gt49.false c.if-last-gt49.false)

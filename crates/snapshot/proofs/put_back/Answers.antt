@@ -1,7 +1,7 @@
 use mathlib.Core.List.{[], ◌∷◌}
 use Rattle.snapshot.specs.Bytes.{items_bytes, config_bytes, flag_byte}
 use Rattle.snapshot.specs.Assembled.{back_bytes}
-use Rattle.writer.proofs.Laws.{begin, fits, more, put-more, put_last}
+use Rattle.writer.proofs.Laws.{begin, fits, more, put_more, put_last}
 use borrow.Author.Rules.{rules}
 use Rattle.snapshot.proofs.put_back.Goals as goal
 
@@ -16,7 +16,7 @@ unfolding back_bytes
 put_config-r-requires c = let a = c.args in
     let l0 = begin (back_bytes a.w a.c a.transferable a.last.now) a.at a.buf.now c.requires.room in
     let l1 = more _ _ l0 c.put_items-p.ensures in
-    let l2 = put-more _ _ l1 (c.number-q.ensures.value, c.number-q.ensures.buf_after) in
+    let l2 = put_more _ _ l1 (c.number-q.ensures.value, c.number-q.ensures.buf_after) in
     record { count_bound = c.requires.count_bound_2; room = fits (config_bytes a.c) _ l2 }
 
 pub returns : goal.returns
@@ -24,7 +24,7 @@ unfolding back_bytes
 returns c = let a = c.args in
     let l0 = begin (back_bytes a.w a.c a.transferable a.last.now) a.at a.buf.now c.requires.room in
     let l1 = more _ _ l0 c.put_items-p.ensures in
-    let l2 = put-more _ _ l1 (c.number-q.ensures.value, c.number-q.ensures.buf_after) in
+    let l2 = put_more _ _ l1 (c.number-q.ensures.value, c.number-q.ensures.buf_after) in
     let l3 = more _ _ l2 c.put_config-r.ensures in
-    let l4 = put-more (flag_byte a.transferable ∷ []) _ l3 (rw c.flag_byte-flag.ensures at c.byte-e.ensures.value, rw c.flag_byte-flag.ensures at c.byte-e.ensures.buf_after) in
+    let l4 = put_more (flag_byte a.transferable ∷ []) _ l3 (rw c.flag_byte-flag.ensures at c.byte-e.ensures.value, rw c.flag_byte-flag.ensures at c.byte-e.ensures.buf_after) in
     put_last _ l4 (c.bytes.ensures.value, c.bytes.ensures.buf_after)

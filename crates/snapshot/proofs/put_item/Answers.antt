@@ -1,5 +1,5 @@
 use Rattle.snapshot.specs.Bytes.{item_bytes}
-use Rattle.writer.proofs.Laws.{begin, put-more, put_last}
+use Rattle.writer.proofs.Laws.{begin, put_more, put_last}
 use borrow.Author.Rules.{rules}
 use Rattle.snapshot.proofs.put_item.Goals as goal
 
@@ -7,5 +7,5 @@ pub returns : goal.returns
 unfolding item_bytes
 returns c = let a = c.args in
     let l0 = begin (item_bytes a.x) a.at a.buf.now c.requires in
-    let l1 = put-more _ _ l0 (c.byte-p.ensures.value, c.byte-p.ensures.buf_after) in
+    let l1 = put_more _ _ l0 (c.byte-p.ensures.value, c.byte-p.ensures.buf_after) in
     put_last _ l1 (c.bytes.ensures.value, c.bytes.ensures.buf_after)

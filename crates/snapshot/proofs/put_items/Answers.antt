@@ -8,8 +8,8 @@ use Rattle.items.specs.Items.{listed}
 use Rattle.items.proofs.Laws.{no_item, places-16}
 use Rattle.writer.specs.Writing.{Room}
 use Rattle.snapshot.specs.Bytes.{each, item_bytes, items_bytes}
-use Rattle.writer.proofs.Laws.{Put, Left, begin, last, put-more}
-use Rattle.snapshot.proofs.Laws.{each_fits, each_more, each-done}
+use Rattle.writer.proofs.Laws.{Put, Left, begin, last, put_more}
+use Rattle.snapshot.proofs.Laws.{each_fits, each_more, each_done}
 use borrow.Author.Rules.{rules}
 use Rattle.snapshot.proofs.put_items.Goals as goal
 
@@ -19,7 +19,7 @@ behind-count : (l : Items) (at : ℕ) (b : List ℕ) (p : ℕ) (b' : List ℕ) �
 unfolding items_bytes
 behind-count l at b p b' h g r w =
     let n : length (listed l) ≡ l.count = simp length-take (omega arith) in
-    put-more (length (listed l) ∷ []) (each item_bytes (listed l)) (begin (items_bytes l) at b r) (rw n w)
+    put_more (length (listed l) ∷ []) (each item_bytes (listed l)) (begin (items_bytes l) at b r) (rw n w)
 
 pub loop-i-init : goal.loop-i-init
 loop-i-init c = let a = c.args in
@@ -48,4 +48,4 @@ returns c = let a = c.args in
     let l = c.loop-i in
     let h : length a.l.at ≡ 16 = l.invariant.2 in
     let f = behind-count a.l a.at a.buf.now _ _ h c.requires.count_bound c.requires.room (c.byte-p.ensures.value, c.byte-p.ensures.buf_after) in
-    last (each item_bytes (listed a.l)) f (each-done item_bytes a.l.at a.l.count l.i l.invariant.4 (omega arith))
+    last (each item_bytes (listed a.l)) f (each_done item_bytes a.l.at a.l.count l.i l.invariant.4 (omega arith))

@@ -8,8 +8,8 @@ use Rattle.items.specs.Items.{listed}
 use Rattle.items.proofs.Laws.{no_item, places-16}
 use Rattle.writer.specs.Writing.{Room}
 use Rattle.snapshot.specs.Bytes.{each, item_bytes, items_bytes}
-use Rattle.writer.proofs.Laws.{Put, Left, begin, last, put-more}
-use Rattle.snapshot.proofs.Laws.{each_fits, each_more, each-done}
+use Rattle.writer.proofs.Laws.{Put, Left, begin, last, put_more}
+use Rattle.snapshot.proofs.Laws.{each_fits, each_more, each_done}
 use Rattle.snapshot.proofs.put_items.Given as goal
 
 abbrev pub invariant-loop-i : goal.invariant-loop-i

@@ -6,7 +6,7 @@ use Rattle.items.proofs.Laws as items
 use Rattle.config.proofs.Laws as config
 use Rattle.snapshot.proofs.Shapes.{good_state}
 use Rattle.snapshot.proofs.Real.{real_state}
-use Rattle.writer.proofs.Laws.{begin, fits, more, last, put-more}
+use Rattle.writer.proofs.Laws.{begin, fits, more, last, put_more}
 use borrow.Author.Rules.{rules}
 use Rattle.snapshot.proofs.put_tail.Goals as goal
 
@@ -22,7 +22,7 @@ unfolding tail_bytes
 put_config-r-requires c = let a = c.args in
     let l0 = begin (tail_bytes a.s) a.at a.buf.now c.requires.room in
     let l1 = more _ _ l0 c.put_items-p.ensures in
-    let l2 = put-more _ _ l1 (c.number-q.ensures.value, c.number-q.ensures.buf_after) in
+    let l2 = put_more _ _ l1 (c.number-q.ensures.value, c.number-q.ensures.buf_after) in
     let g = good_state a.s c.requires.s_value in
     record { count_bound = (config.good _ g.config).few; room = fits (config_bytes a.s.config) _ l2 }
 
@@ -31,9 +31,9 @@ unfolding tail_bytes
 put_point-requires c = let a = c.args in
     let l0 = begin (tail_bytes a.s) a.at a.buf.now c.requires.room in
     let l1 = more _ _ l0 c.put_items-p.ensures in
-    let l2 = put-more _ _ l1 (c.number-q.ensures.value, c.number-q.ensures.buf_after) in
+    let l2 = put_more _ _ l1 (c.number-q.ensures.value, c.number-q.ensures.buf_after) in
     let l3 = more _ _ l2 c.put_config-r.ensures in
-    let l4 = put-more (flag_byte a.s.transferable ∷ []) _ l3 (rw c.flag_byte-flag.ensures at c.byte-e.ensures.value, rw c.flag_byte-flag.ensures at c.byte-e.ensures.buf_after) in
+    let l4 = put_more (flag_byte a.s.transferable ∷ []) _ l3 (rw c.flag_byte-flag.ensures at c.byte-e.ensures.value, rw c.flag_byte-flag.ensures at c.byte-e.ensures.buf_after) in
     l4.room
 
 pub returns : goal.returns
@@ -41,7 +41,7 @@ unfolding tail_bytes
 returns c = let a = c.args in
     let l0 = begin (tail_bytes a.s) a.at a.buf.now c.requires.room in
     let l1 = more _ _ l0 c.put_items-p.ensures in
-    let l2 = put-more _ _ l1 (c.number-q.ensures.value, c.number-q.ensures.buf_after) in
+    let l2 = put_more _ _ l1 (c.number-q.ensures.value, c.number-q.ensures.buf_after) in
     let l3 = more _ _ l2 c.put_config-r.ensures in
-    let l4 = put-more (flag_byte a.s.transferable ∷ []) _ l3 (rw c.flag_byte-flag.ensures at c.byte-e.ensures.value, rw c.flag_byte-flag.ensures at c.byte-e.ensures.buf_after) in
+    let l4 = put_more (flag_byte a.s.transferable ∷ []) _ l3 (rw c.flag_byte-flag.ensures at c.byte-e.ensures.value, rw c.flag_byte-flag.ensures at c.byte-e.ensures.buf_after) in
     last _ l4 c.put_point.ensures

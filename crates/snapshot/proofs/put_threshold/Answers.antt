@@ -5,9 +5,9 @@ use lib.ListN.{take, length-take}
 use Rattle.threshold.specs.Threshold.{sizes_of, weights_in}
 use Rattle.writer.specs.Writing.{be, Room}
 use Rattle.snapshot.specs.Bytes.{counted, each, weight_bytes}
-use Rattle.writer.proofs.Laws.{begin, fits, more, last, put-more, put_last}
+use Rattle.writer.proofs.Laws.{begin, fits, more, last, put_more, put_last}
 use Rattle.snapshot.proofs.Laws.{simple-bytes, weighted-bytes}
-use Rattle.snapshot.proofs.Shapes.{is-weighted}
+use Rattle.snapshot.proofs.Shapes.{is_weighted}
 use Rattle.snapshot.proofs.Real.{real_threshold}
 use borrow.Author.Rules.{rules}
 use Rattle.snapshot.proofs.put_threshold.Goals as goal
@@ -17,16 +17,16 @@ returns-then-t-eq0 c = let a = c.args in
     let e = simple-bytes a.t c.if-t-eq0.true in
     let r : Room ((0 ∷ []) ++ be 8 a.t.simple) a.at a.buf.now = rw e at c.requires.room in
     let l0 = begin ((0 ∷ []) ++ be 8 a.t.simple) a.at a.buf.now r in
-    let l1 = put-more (0 ∷ []) (be 8 a.t.simple) l0 (c.byte-p.ensures.value, c.byte-p.ensures.buf_after) in
+    let l1 = put_more (0 ∷ []) (be 8 a.t.simple) l0 (c.byte-p.ensures.value, c.byte-p.ensures.buf_after) in
     rw e (put_last (be 8 a.t.simple) l1 (c.number.ensures.value, c.number.ensures.buf_after))
 
 pub slice_bounds-sizes-end : goal.slice_bounds-sizes-end
-slice_bounds-sizes-end c = let g = (is-weighted c.args.t c.requires.t_value c.if-t-eq0.false).few in
+slice_bounds-sizes-end c = let g = (is_weighted c.args.t c.requires.t_value c.if-t-eq0.false).few in
     let h = (real_threshold c.args.t _ c.well_formed.1.1.0).sizes in
     omega arith
 
 pub slice_bounds-put_counted-end : goal.slice_bounds-put_counted-end
-slice_bounds-put_counted-end c = let g = (is-weighted c.args.t c.requires.t_value c.if-t-eq0.false).few in
+slice_bounds-put_counted-end c = let g = (is_weighted c.args.t c.requires.t_value c.if-t-eq0.false).few in
     let h = (real_threshold c.args.t _ c.well_formed.1.1.0).sizes in
     simp length-take (omega arith)
 
@@ -37,8 +37,8 @@ put_counted-q-requires c = let a = c.args in
     let e = weighted-bytes a.t total c.if-t-eq0.false c.weights_in-total.ensures in
     let r : Room ((1 ∷ []) ++ (counted (sizes_of a.t) ++ ws)) a.at a.buf.now = rw e at c.requires.room in
     let l0 = begin ((1 ∷ []) ++ (counted (sizes_of a.t) ++ ws)) a.at a.buf.now r in
-    let l1 = put-more (1 ∷ []) (counted (sizes_of a.t) ++ ws) l0 (c.byte-p-2.ensures.value, c.byte-p-2.ensures.buf_after) in
-    let g = (is-weighted a.t c.requires.t_value c.if-t-eq0.false).few in
+    let l1 = put_more (1 ∷ []) (counted (sizes_of a.t) ++ ws) l0 (c.byte-p-2.ensures.value, c.byte-p-2.ensures.buf_after) in
+    let g = (is_weighted a.t c.requires.t_value c.if-t-eq0.false).few in
     record { src_len_bound = simp length-take (omega arith); room = fits (counted (sizes_of a.t)) ws l1 }
 
 pub put_weights-requires : goal.put_weights-requires
@@ -48,9 +48,9 @@ put_weights-requires c = let a = c.args in
     let e = weighted-bytes a.t total c.if-t-eq0.false c.weights_in-total.ensures in
     let r : Room ((1 ∷ []) ++ (counted (sizes_of a.t) ++ ws)) a.at a.buf.now = rw e at c.requires.room in
     let l0 = begin ((1 ∷ []) ++ (counted (sizes_of a.t) ++ ws)) a.at a.buf.now r in
-    let l1 = put-more (1 ∷ []) (counted (sizes_of a.t) ++ ws) l0 (c.byte-p-2.ensures.value, c.byte-p-2.ensures.buf_after) in
+    let l1 = put_more (1 ∷ []) (counted (sizes_of a.t) ++ ws) l0 (c.byte-p-2.ensures.value, c.byte-p-2.ensures.buf_after) in
     let l2 = more (counted (sizes_of a.t)) ws l1 c.put_counted-q.ensures in
-    let g = (is-weighted a.t c.requires.t_value c.if-t-eq0.false).light in
+    let g = (is_weighted a.t c.requires.t_value c.if-t-eq0.false).light in
     let m : total ≡ weights_in a.t = c.weights_in-total.ensures in
     record { n_bound = omega arith; room = l2.room }
 
@@ -61,6 +61,6 @@ returns c = let a = c.args in
     let e = weighted-bytes a.t total c.if-t-eq0.false c.weights_in-total.ensures in
     let r : Room ((1 ∷ []) ++ (counted (sizes_of a.t) ++ ws)) a.at a.buf.now = rw e at c.requires.room in
     let l0 = begin ((1 ∷ []) ++ (counted (sizes_of a.t) ++ ws)) a.at a.buf.now r in
-    let l1 = put-more (1 ∷ []) (counted (sizes_of a.t) ++ ws) l0 (c.byte-p-2.ensures.value, c.byte-p-2.ensures.buf_after) in
+    let l1 = put_more (1 ∷ []) (counted (sizes_of a.t) ++ ws) l0 (c.byte-p-2.ensures.value, c.byte-p-2.ensures.buf_after) in
     let l2 = more (counted (sizes_of a.t)) ws l1 c.put_counted-q.ensures in
     rw e (last ws l2 c.put_weights.ensures)

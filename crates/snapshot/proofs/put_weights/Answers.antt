@@ -4,7 +4,7 @@ use native.Mathlib.Omega.{arith}
 use lib.ListN.{length, drop, take}
 use Rattle.snapshot.specs.Bytes.{each, weight_bytes}
 use Rattle.writer.proofs.Laws.{Left, begin}
-use Rattle.snapshot.proofs.Laws.{each_fits, each_more, each-done}
+use Rattle.snapshot.proofs.Laws.{each_fits, each_more, each_done}
 use Rattle.threshold.proofs.Laws.{no_weight}
 use borrow.Author.Rules.{rules}
 use Rattle.snapshot.proofs.put_weights.Goals as goal
@@ -22,4 +22,4 @@ loop-i-preserved c = let a = c.args in
 pub returns : goal.returns
 returns c = let a = c.args in
     let l = c.loop-i in
-    each-done weight_bytes a.weights a.n l.i l.invariant.4 (omega arith)
+    each_done weight_bytes a.weights a.n l.i l.invariant.4 (omega arith)

@@ -4,7 +4,7 @@ use native.Mathlib.Omega.{arith}
 use lib.ListN.{length, drop, take}
 use Rattle.snapshot.specs.Bytes.{each, weight_bytes}
 use Rattle.writer.proofs.Laws.{Left, begin}
-use Rattle.snapshot.proofs.Laws.{each_fits, each_more, each-done}
+use Rattle.snapshot.proofs.Laws.{each_fits, each_more, each_done}
 use Rattle.threshold.proofs.Laws.{no_weight}
 use Rattle.snapshot.proofs.put_weights.Given as goal
 

@@ -3,13 +3,13 @@ use mathlib.Core.Bool.{true, false}
 use native.Mathlib.Omega.{arith}
 use borrow.Author.Tests.{not-true, not-false}
 use Rattle.state.proofs.Laws.{is_held_lem}
-use Rattle.snapshot.proofs.Size.{record-size, saved-fault, saved-empty, saved-short, saved-whole, held-shape}
+use Rattle.snapshot.proofs.Size.{record-size, saved_fault, saved-empty, saved-short, saved_whole, held-shape}
 use borrow.Author.Rules.{rules}
 use Rattle.snapshot.proofs.save.Goals as goal
 
 pub returns-then-fault-ne0 : goal.returns-then-fault-ne0
 returns-then-fault-ne0 c = let a = c.args in
-    record { value = rw (saved-fault a.h a.buf.now _ c.of_holder-fault.ensures c.if-fault-ne0.true) c.refuse.ensures; buf_after = rw (saved-fault a.h a.buf.now _ c.of_holder-fault.ensures c.if-fault-ne0.true) }
+    record { value = rw (saved_fault a.h a.buf.now _ c.of_holder-fault.ensures c.if-fault-ne0.true) c.refuse.ensures; buf_after = rw (saved_fault a.h a.buf.now _ c.of_holder-fault.ensures c.if-fault-ne0.true) }
 
 pub returns-then-not-held : goal.returns-then-not-held
 returns-then-not-held c = let a = c.args in
@@ -45,4 +45,4 @@ returns c = let a = c.args in
     let z = c.if-fault-ne0.false in
     let held = is_held_lem a.h true (c.if-not-held.false) in
     let n = record-size a.h.state _ c.body_size-size.ensures.is in
-    record { value = rw (saved-whole a.h a.buf.now _ e z _ held n c.if-buf-needed.false) c.refuse-2.ensures; buf_after = rw (saved-whole a.h a.buf.now _ e z _ held n c.if-buf-needed.false) c.put_record.ensures.bytes }
+    record { value = rw (saved_whole a.h a.buf.now _ e z _ held n c.if-buf-needed.false) c.refuse-2.ensures; buf_after = rw (saved_whole a.h a.buf.now _ e z _ held n c.if-buf-needed.false) c.put_record.ensures.bytes }

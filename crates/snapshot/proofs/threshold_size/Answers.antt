@@ -1,6 +1,6 @@
 use mathlib.Core.Path.{sym}
 use native.Mathlib.Omega.{arith}
-use Rattle.snapshot.proofs.Shapes.{is-weighted}
+use Rattle.snapshot.proofs.Shapes.{is_weighted}
 use Rattle.snapshot.proofs.Real.{real_threshold}
 use Rattle.snapshot.proofs.Size.{simple-size, weighted-size}
 use borrow.Author.Rules.{rules}
@@ -12,7 +12,7 @@ returns-then-t-eq0 c = let t = c.args.t in
 
 pub overflow_add-result : goal.overflow_add-result
 overflow_add-result c = let t = c.args.t in
-    let g = is-weighted t c.requires c.if-t-eq0.false in
+    let g = is_weighted t c.requires c.if-t-eq0.false in
     let few = g.few in
     let light = g.light in
     let e = c.weights_in-total.ensures in
@@ -20,7 +20,7 @@ overflow_add-result c = let t = c.args.t in
 
 pub overflow_mul-result : goal.overflow_mul-result
 overflow_mul-result c = let t = c.args.t in
-    let g = is-weighted t c.requires c.if-t-eq0.false in
+    let g = is_weighted t c.requires c.if-t-eq0.false in
     let few = g.few in
     let light = g.light in
     let e = c.weights_in-total.ensures in
@@ -28,7 +28,7 @@ overflow_mul-result c = let t = c.args.t in
 
 pub overflow_add-result-2 : goal.overflow_add-result-2
 overflow_add-result-2 c = let t = c.args.t in
-    let g = is-weighted t c.requires c.if-t-eq0.false in
+    let g = is_weighted t c.requires c.if-t-eq0.false in
     let few = g.few in
     let light = g.light in
     let e = c.weights_in-total.ensures in
@@ -36,7 +36,7 @@ overflow_add-result-2 c = let t = c.args.t in
 
 pub returns : goal.returns
 returns c = let t = c.args.t in
-    let g = is-weighted t c.requires c.if-t-eq0.false in
+    let g = is_weighted t c.requires c.if-t-eq0.false in
     let few = g.few in
     let light = g.light in
     let e = c.weights_in-total.ensures in

@@ -10,12 +10,12 @@ use Rattle.places.specs.Places.{bit_at}
 use Rattle.weight.specs.declared.Sum.{Sum}
 use Rattle.weight.specs.Weight.{weigh, no_sum}
 use Rattle.threshold.specs.Threshold.{sum_from}
-use Rattle.threshold.proofs.Laws.{no_weight, clause_next, clause-none, clause-end}
+use Rattle.threshold.proofs.Laws.{no_weight, clause_next, clause_none, clause_end}
 use borrow.Author.Rules.{rules}
 use Rattle.threshold.proofs.clause_sum.Goals as goal
 
 pub returns-then-left-eq0 : goal.returns-then-left-eq0
-returns-then-left-eq0 c = clause-none (bit_at c.args.set) c.loop-k.s c.args.weights c.loop-k.k c.loop-k.left c.if-left-eq0.true ∙ c.loop-k.invariant.1
+returns-then-left-eq0 c = clause_none (bit_at c.args.set) c.loop-k.s c.args.weights c.loop-k.k c.loop-k.left c.if-left-eq0.true ∙ c.loop-k.invariant.1
 
 pub loop-k-preserved : goal.loop-k-preserved
 loop-k-preserved c = let a = c.args in
@@ -30,4 +30,4 @@ loop-k-preserved c = let a = c.args in
     )
 
 pub returns : goal.returns
-returns c = clause-end (bit_at c.args.set) c.loop-k.s c.args.weights c.loop-k.k c.loop-k.left (omega arith) ∙ c.loop-k.invariant.1
+returns c = clause_end (bit_at c.args.set) c.loop-k.s c.args.weights c.loop-k.k c.loop-k.left (omega arith) ∙ c.loop-k.invariant.1

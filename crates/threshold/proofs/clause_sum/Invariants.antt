@@ -10,7 +10,7 @@ use Rattle.places.specs.Places.{bit_at}
 use Rattle.weight.specs.declared.Sum.{Sum}
 use Rattle.weight.specs.Weight.{weigh, no_sum}
 use Rattle.threshold.specs.Threshold.{sum_from}
-use Rattle.threshold.proofs.Laws.{no_weight, clause_next, clause-none, clause-end}
+use Rattle.threshold.proofs.Laws.{no_weight, clause_next, clause_none, clause_end}
 use Rattle.threshold.proofs.clause_sum.Given as goal
 
 abbrev pub invariant-loop-k : goal.invariant-loop-k

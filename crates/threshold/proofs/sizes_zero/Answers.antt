@@ -5,14 +5,14 @@ use lib.ListN.{length, drop}
 use lib.Dec.{eqb}
 use borrow.Author.Tests.{eq-eqb, ne_eqb}
 use Rattle.lists.specs.Lists.{all}
-use Rattle.lists.proofs.Walks.{head_of, all-stop, all-next, all_end}
+use Rattle.lists.proofs.Walks.{head_of, all_stop, all-next, all_end}
 use borrow.Author.Rules.{rules}
 use Rattle.threshold.proofs.sizes_zero.Goals as goal
 
 pub returns-then-sizes-i-ne0 : goal.returns-then-sizes-i-ne0
 returns-then-sizes-i-ne0 c = let a = c.args in
     let l : length a.sizes ≡ 16 = c.loop-i.invariant.0 in
-    sym (all-stop (eqb 0) a.sizes _ c.loop-i.i (head_of 0 a.sizes c.loop-i.i (omega arith)) (ne_eqb 0 _ (λ e. c.if-sizes-i-ne0.true (sym e)))) ∙ c.loop-i.invariant.1
+    sym (all_stop (eqb 0) a.sizes _ c.loop-i.i (head_of 0 a.sizes c.loop-i.i (omega arith)) (ne_eqb 0 _ (λ e. c.if-sizes-i-ne0.true (sym e)))) ∙ c.loop-i.invariant.1
 
 pub loop-i-preserved : goal.loop-i-preserved
 loop-i-preserved c = let a = c.args in

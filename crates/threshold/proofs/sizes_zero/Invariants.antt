@@ -5,7 +5,7 @@ use lib.ListN.{length, drop}
 use lib.Dec.{eqb}
 use borrow.Author.Tests.{eq-eqb, ne_eqb}
 use Rattle.lists.specs.Lists.{all}
-use Rattle.lists.proofs.Walks.{head_of, all-stop, all-next, all_end}
+use Rattle.lists.proofs.Walks.{head_of, all_stop, all-next, all_end}
 use Rattle.threshold.proofs.sizes_zero.Given as goal
 
 abbrev pub invariant-loop-i : goal.invariant-loop-i

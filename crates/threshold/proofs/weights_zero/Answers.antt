@@ -4,7 +4,7 @@ use native.Mathlib.Omega.{arith}
 use lib.ListN.{length, drop}
 use borrow.Author.Tests.{not-true, not-false}
 use Rattle.lists.specs.Lists.{all}
-use Rattle.lists.proofs.Walks.{head_of, all-stop, all-next, all_end}
+use Rattle.lists.proofs.Walks.{head_of, all_stop, all-next, all_end}
 use Rattle.weight.specs.Weight.{zero_weight}
 use Rattle.threshold.proofs.Laws.{no_weight}
 use borrow.Author.Rules.{rules}
@@ -13,7 +13,7 @@ use Rattle.threshold.proofs.weights_zero.Goals as goal
 pub returns-then-not-is_zero : goal.returns-then-not-is_zero
 returns-then-not-is_zero c = let a = c.args in
     let l : length a.weights ≡ 16 = c.loop-i.invariant.0 in
-    sym (all-stop zero_weight a.weights _ c.loop-i.i (head_of no_weight a.weights c.loop-i.i (omega arith)) (sym c.is_zero.ensures ∙ c.if-not-is_zero.true)) ∙ c.loop-i.invariant.1
+    sym (all_stop zero_weight a.weights _ c.loop-i.i (head_of no_weight a.weights c.loop-i.i (omega arith)) (sym c.is_zero.ensures ∙ c.if-not-is_zero.true)) ∙ c.loop-i.invariant.1
 
 pub loop-i-preserved : goal.loop-i-preserved
 loop-i-preserved c = let a = c.args in

@@ -3,7 +3,7 @@ use Prim.Native.Nat.{◌+◌, ◌≤◌, ◌-◌}
 use native.Mathlib.Omega.{arith}
 use Rattle.lists.specs.Lists.{padded}
 use Rattle.cursor.specs.Spans.{list_of}
-use Rattle.cursor.proofs.Laws.{list-more}
+use Rattle.cursor.proofs.Laws.{list_more}
 use Rattle.threshold_field.specs.ThresholdField.{byte_of}
 use Rattle.threshold_field.proofs.Laws.{fill_none, fill-over, fill-short, fill-all}
 use borrow.Author.Rules.{rules}
@@ -27,7 +27,7 @@ loop-i-init c = let a = c.args in
 
 pub loop-i-preserved : goal.loop-i-preserved
 loop-i-preserved c = let a = c.args in
-    (search rules, list-more (byte_of a.s.now) 1 16 0 c.loop-i.i a.first (a.first + c.loop-i.i) _ _ (omega arith) (omega arith) refl c.loop-i.invariant.1)
+    (search rules, list_more (byte_of a.s.now) 1 16 0 c.loop-i.i a.first (a.first + c.loop-i.i) _ _ (omega arith) (omega arith) refl c.loop-i.invariant.1)
 
 pub returns : goal.returns
 returns c = let a = c.args in

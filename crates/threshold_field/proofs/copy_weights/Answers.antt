@@ -3,7 +3,7 @@ use Prim.Native.Nat.{◌+◌, ◌*◌, ◌≤◌, ◌-◌}
 use native.Mathlib.Omega.{arith}
 use Rattle.lists.specs.Lists.{padded}
 use Rattle.cursor.specs.Spans.{list_of}
-use Rattle.cursor.proofs.Laws.{list-more}
+use Rattle.cursor.proofs.Laws.{list_more}
 use Rattle.threshold_field.specs.ThresholdField.{weight_of, no_weight}
 use Rattle.threshold_field.proofs.Laws.{fill_none, fill-over, fill-short, fill-all}
 use borrow.Author.Rules.{rules}
@@ -27,7 +27,7 @@ loop-i-init c = let a = c.args in
 
 pub loop-i-preserved : goal.loop-i-preserved
 loop-i-preserved c = let a = c.args in
-    (search rules, list-more (weight_of a.s.now) 16 16 no_weight c.loop-i.i a.first (a.first + c.loop-i.i * 16) _ _ (omega arith) refl c.copy_weight-w.ensures c.loop-i.invariant.1)
+    (search rules, list_more (weight_of a.s.now) 16 16 no_weight c.loop-i.i a.first (a.first + c.loop-i.i * 16) _ _ (omega arith) refl c.copy_weight-w.ensures c.loop-i.invariant.1)
 
 pub returns : goal.returns
 returns c = let a = c.args in

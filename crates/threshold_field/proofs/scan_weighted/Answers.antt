@@ -4,7 +4,7 @@ use native.Mathlib.Omega.{arith}
 use borrow.Author.Tests.{le-leb, lt-leb}
 use Rattle.cursor.specs.Cursor.{is8}
 use Rattle.threshold_field.specs.ThresholdField.{weighted_at, total_is, Small}
-use Rattle.threshold_field.proofs.Laws.{pass-got, pass-short}
+use Rattle.threshold_field.proofs.Laws.{pass_got, pass_short}
 use borrow.Author.Rules.{rules}
 use Rattle.threshold_field.proofs.scan_weighted.Goals as goal
 
@@ -22,7 +22,7 @@ returns-then-len-weights c = let a = c.args in
     let t = c.in-Of-scan_sizes.total in
     let w = c.in-Of-scan_sizes.weights in
     rw (sym c.read_u8.ensures ∙ ap is8 c.in-Of.is, le-leb _ _ c.if-count-gt16.false, sym c.scan_sizes.ensures.result_value ∙ ap total_is c.in-Of-scan_sizes.is)
-    (sym (pass-short _ (t * 16) a.s.now w (omega arith)))
+    (sym (pass_short _ (t * 16) a.s.now w (omega arith)))
 
 pub returns-then-len-weights-2 : goal.returns-then-len-weights-2
 unfolding weighted_at
@@ -30,7 +30,7 @@ returns-then-len-weights-2 c = let a = c.args in
     let t = c.in-Of-scan_sizes.total in
     let w = c.in-Of-scan_sizes.weights in
     rw (sym c.read_u8.ensures ∙ ap is8 c.in-Of.is, le-leb _ _ c.if-count-gt16.false, sym c.scan_sizes.ensures.result_value ∙ ap total_is c.in-Of-scan_sizes.is)
-    (sym (pass-short _ (t * 16) a.s.now w (omega arith)))
+    (sym (pass_short _ (t * 16) a.s.now w (omega arith)))
 
 pub returns-else-len-weights-2 : goal.returns-else-len-weights-2
 unfolding weighted_at
@@ -38,7 +38,7 @@ returns-else-len-weights-2 c = let a = c.args in
     let t = c.in-Of-scan_sizes.total in
     let w = c.in-Of-scan_sizes.weights in
     rw (sym c.read_u8.ensures ∙ ap is8 c.in-Of.is, le-leb _ _ c.if-count-gt16.false, sym c.scan_sizes.ensures.result_value ∙ ap total_is c.in-Of-scan_sizes.is)
-    (sym (pass-got _ (t * 16) a.s.now w (omega arith)))
+    (sym (pass_got _ (t * 16) a.s.now w (omega arith)))
 
 pub returns-in-No : goal.returns-in-No
 unfolding weighted_at

@@ -5,7 +5,7 @@ use native.Mathlib.Omega.{arith}
 use lib.ListN.{length, take}
 use Rattle.lists.specs.Lists.{any}
 use Rattle.verification.specs.Verification.{same_wire, counted_of}
-use Rattle.verification.proofs.Laws.{places-48, counted_none, next-copy, next_more, used_all, array_all, none_before, firsts_in, firsts-none, firsts-kept, firsts-with, list_copy, list-other}
+use Rattle.verification.proofs.Laws.{places-48, counted_none, next-copy, next_more, used_all, array_all, none_before, firsts_in, firsts-none, firsts-kept, firsts-with, list_copy, list_other}
 use borrow.Author.Rules.{rules}
 use Rattle.verification.proofs.count.Goals as goal
 
@@ -29,7 +29,7 @@ pub loop-j-preserved : goal.loop-j-preserved
 loop-j-preserved c = let a = c.args in (
   c.loop-j.invariant.0,
   search rules,
-  list-other a.l.at c.each.i c.each.set c.each.invariant.4 _ c.loop-j.j (omega arith) (omega arith) (omega arith) c.loop-j.invariant.2
+  list_other a.l.at c.each.i c.each.set c.each.invariant.4 _ c.loop-j.j (omega arith) (omega arith) (omega arith) c.loop-j.invariant.2
       (sym c.is_copy.ensures ∙ c.if-is_copy.false),
 )
 

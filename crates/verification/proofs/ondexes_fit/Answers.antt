@@ -4,7 +4,7 @@ use native.Mathlib.Omega.{arith}
 use borrow.Author.Tests.{not-true, not-false}
 use lib.ListN.{length, drop, take}
 use Rattle.lists.specs.Lists.{all}
-use Rattle.lists.proofs.Walks.{head_at, used-end, array_end, all-stop, all-next, all_end}
+use Rattle.lists.proofs.Walks.{head_at, used-end, array_end, all_stop, all-next, all_end}
 use Rattle.verification.specs.Verification.{signatures, ondex_fits}
 use Rattle.verification.proofs.Laws.{blank, places-48}
 use borrow.Author.Rules.{rules}
@@ -16,7 +16,7 @@ returns-then-n-i c = let l = c.args.l in
 
 pub returns-then-not-ondex_fits : goal.returns-then-not-ondex_fits
 returns-then-not-ondex_fits c = let l = c.args.l in
-    sym (c.loop-i.invariant.1.1 ∙ all-stop ondex_fits (signatures l) _ c.loop-i.i (head_at blank l.at l.count c.loop-i.i (omega arith) (omega arith)) (sym c.ondex_fits.ensures ∙ c.if-not-ondex_fits.true))
+    sym (c.loop-i.invariant.1.1 ∙ all_stop ondex_fits (signatures l) _ c.loop-i.i (head_at blank l.at l.count c.loop-i.i (omega arith) (omega arith)) (sym c.ondex_fits.ensures ∙ c.if-not-ondex_fits.true))
 
 pub loop-i-preserved : goal.loop-i-preserved
 loop-i-preserved c = let l = c.args.l in

@@ -4,7 +4,7 @@ use native.Mathlib.Omega.{arith}
 use borrow.Author.Tests.{not-true, not-false}
 use lib.ListN.{length, drop, take}
 use Rattle.lists.specs.Lists.{all}
-use Rattle.lists.proofs.Walks.{head_at, used-end, array_end, all-stop, all-next, all_end}
+use Rattle.lists.proofs.Walks.{head_at, used-end, array_end, all_stop, all-next, all_end}
 use Rattle.verification.specs.Verification.{signatures, ondex_fits}
 use Rattle.verification.proofs.Laws.{blank, places-48}
 use Rattle.verification.proofs.ondexes_fit.Given as goal

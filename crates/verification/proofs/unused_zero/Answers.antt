@@ -4,7 +4,7 @@ use native.Mathlib.Omega.{arith}
 use borrow.Author.Tests.{not-true, not-false}
 use lib.ListN.{length, drop}
 use Rattle.lists.specs.Lists.{all}
-use Rattle.lists.proofs.Walks.{head_of, all-stop, all-next, all_end}
+use Rattle.lists.proofs.Walks.{head_of, all_stop, all-next, all_end}
 use Rattle.verification.specs.Verification.{zero_siger}
 use Rattle.verification.proofs.Laws.{blank, places-48}
 use borrow.Author.Rules.{rules}
@@ -12,7 +12,7 @@ use Rattle.verification.proofs.unused_zero.Goals as goal
 
 pub returns-then-not-is_zero : goal.returns-then-not-is_zero
 returns-then-not-is_zero c = let at = c.args.l.at in
-    sym (c.loop-i.invariant.1 ∙ all-stop zero_siger at _ c.loop-i.i (head_of blank at c.loop-i.i (omega arith)) (sym c.is_zero.ensures ∙ c.if-not-is_zero.true))
+    sym (c.loop-i.invariant.1 ∙ all_stop zero_siger at _ c.loop-i.i (head_of blank at c.loop-i.i (omega arith)) (sym c.is_zero.ensures ∙ c.if-not-is_zero.true))
 
 pub loop-i-preserved : goal.loop-i-preserved
 loop-i-preserved c = let at = c.args.l.at in

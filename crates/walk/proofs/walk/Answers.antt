@@ -6,7 +6,7 @@ use lib.ListN.{length}
 use Rattle.layout.specs.Records.{first_of, next_in}
 use Rattle.in_place.specs.Calls.{offered_in}
 use Rattle.walk.specs.Walk.{Lent, lent}
-use Rattle.walk.proofs.Laws.{parts, Walking, walking_start, walking-next, walking_end, whole, next-some, next-within}
+use Rattle.walk.proofs.Laws.{parts, Walking, walking_start, walking_next, walking_end, whole, next-some, next-within}
 use borrow.Author.Rules.{rules}
 use Rattle.walk.proofs.walk.Goals as goal
 
@@ -47,7 +47,7 @@ loop-at-preserved c = let a = c.args in
     let all = whole first a.s.now here l.w l.at i more in
     let el = parts (c.offer-x.ensures.value, (c.offer-x.ensures.state_after, c.offer-x.ensures.used_after)) ∙ ap (offered_in l.state l.used) all in
     let en = c.length-at.ensures ∙ ap (λ (t : List ℕ). next_in t (first_of t)) all in
-    (walking-next first a.s.now here l.w l.at i more _ _ _ el c.count_in-w.ensures en, search rules)
+    (walking_next first a.s.now here l.w l.at i more _ _ _ el c.count_in-w.ensures en, search rules)
 
 pub returns : goal.returns
 returns c = let a = c.args in

@@ -6,7 +6,7 @@ use lib.ListN.{length}
 use Rattle.layout.specs.Records.{first_of, next_in}
 use Rattle.in_place.specs.Calls.{offered_in}
 use Rattle.walk.specs.Walk.{Lent, lent}
-use Rattle.walk.proofs.Laws.{parts, Walking, walking_start, walking-next, walking_end, whole, next-some, next-within}
+use Rattle.walk.proofs.Laws.{parts, Walking, walking_start, walking_next, walking_end, whole, next-some, next-within}
 use Rattle.walk.proofs.walk.Given as goal
 
 abbrev pub invariant-loop-at : goal.invariant-loop-at

@@ -6,7 +6,7 @@ use Rattle.lists.specs.Lists.{any}
 use Rattle.cursor.specs.Spans.{list_of}
 use Rattle.verification.specs.Verification.{same_wire}
 use Rattle.wire.specs.Wire.{siger_of}
-use Rattle.wire.proofs.Laws.{none_before, list_copy, list-other}
+use Rattle.wire.proofs.Laws.{none_before, list_copy, list_other}
 use borrow.Author.Rules.{rules}
 use Rattle.wire.proofs.copied.Goals as goal
 
@@ -21,5 +21,5 @@ pub loop-j-preserved : goal.loop-j-preserved
 loop-j-preserved c = let a = c.args in (
   search rules,
   search rules,
-  list-other a.s.now a.at a.i a.set c.requires.set_value _ c.loop-j.j c.loop-j.q (omega arith) c.loop-j.invariant.1 (omega arith) c.loop-j.invariant.2 (sym c.is_copy.ensures ∙ c.if-is_copy.false),
+  list_other a.s.now a.at a.i a.set c.requires.set_value _ c.loop-j.j c.loop-j.q (omega arith) c.loop-j.invariant.1 (omega arith) c.loop-j.invariant.2 (sym c.is_copy.ensures ∙ c.if-is_copy.false),
 )

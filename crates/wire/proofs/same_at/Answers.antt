@@ -4,7 +4,7 @@ use native.Mathlib.Omega.{arith}
 use lib.Dec.{eqb}
 use borrow.Author.Tests.{not-true, not-false}
 use Rattle.wire.specs.Wire.{word_of}
-use Rattle.wire.proofs.Laws.{same-raw, same_code, same_index, same-dual, same-ondex}
+use Rattle.wire.proofs.Laws.{same-raw, same_code, same_index, same_dual, same_ondex}
 use borrow.Author.Rules.{rules}
 use Rattle.wire.proofs.same_at.Goals as goal
 
@@ -22,10 +22,10 @@ returns-then-word c = let a = c.args in
 
 pub returns-then-not-same_flag : goal.returns-then-not-same_flag
 returns-then-not-same_flag c = let a = c.args in
-    sym (same-dual a.s.now a.p a.q (omega arith) (omega arith) (sym c.same_flag.ensures ∙ c.if-not-same_flag.true))
+    sym (same_dual a.s.now a.p a.q (omega arith) (omega arith) (sym c.same_flag.ensures ∙ c.if-not-same_flag.true))
 
 pub returns : goal.returns
 returns c = let a = c.args in
     ap (λ (n : ℕ). eqb n c.word-4.result) c.word-3.ensures ∙ ap (eqb (word_of a.s.now (a.p + 6))) c.word-4.ensures
-    ∙ sym (same-ondex a.s.now a.p a.q (omega arith) (omega arith) (sym c.same_raw.ensures ∙ c.if-not-same_raw.false) c.if-s-p.false
+    ∙ sym (same_ondex a.s.now a.p a.q (omega arith) (omega arith) (sym c.same_raw.ensures ∙ c.if-not-same_raw.false) c.if-s-p.false
     (sym c.word.ensures ∙ c.if-word.false ∙ c.word-2.ensures) (sym c.same_flag.ensures ∙ c.if-not-same_flag.false))

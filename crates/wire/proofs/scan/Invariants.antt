@@ -5,9 +5,9 @@ use native.Mathlib.Omega.{arith}
 use borrow.Author.Tests.{not-true, not-false}
 use Rattle.cursor.specs.Cursor.{is8}
 use Rattle.cursor.specs.Spans.{runs}
-use Rattle.cursor.proofs.Laws.{runs-more, runs-stop, runs-end, span-short, span-many, span-bad, span-got}
+use Rattle.cursor.proofs.Laws.{runs_more, runs_stop, runs-end, span_short, span_many, span_bad, span_got}
 use Rattle.wire.specs.Wire.{place_at}
-use Rattle.wire.proofs.Laws.{shaped-room, place-got, place-bad}
+use Rattle.wire.proofs.Laws.{shaped-room, place_got, place_bad}
 use Rattle.wire.proofs.scan.Given as goal
 
 abbrev pub invariant-loop-i : goal.invariant-loop-i

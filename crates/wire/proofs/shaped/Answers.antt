@@ -1,7 +1,7 @@
 use mathlib.Core.Path.{sym, ◌∙◌}
 use native.Mathlib.Omega.{arith}
 use borrow.Author.Tests.{not-true, not-false}
-use Rattle.wire.proofs.Laws.{shaped-short, shaped-flag, shaped-ondex, shaped-verified, shaped-rest}
+use Rattle.wire.proofs.Laws.{shaped-short, shaped-flag, shaped_ondex, shaped_verified, shaped_rest}
 use borrow.Author.Rules.{rules}
 use Rattle.wire.proofs.shaped.Goals as goal
 
@@ -15,10 +15,10 @@ pub returns-then-flag-gt1 : goal.returns-then-flag-gt1
 returns-then-flag-gt1 c = sym (shaped-flag _ _ (omega arith) (omega arith))
 
 pub returns-then-not-ondex_fits : goal.returns-then-not-ondex_fits
-returns-then-not-ondex_fits c = sym (shaped-ondex _ _ (omega arith) (omega arith) (sym c.ondex_fits.ensures ∙ c.if-not-ondex_fits.true))
+returns-then-not-ondex_fits c = sym (shaped_ondex _ _ (omega arith) (omega arith) (sym c.ondex_fits.ensures ∙ c.if-not-ondex_fits.true))
 
 pub returns-then-s-at-gt1 : goal.returns-then-s-at-gt1
-returns-then-s-at-gt1 c = sym (shaped-verified _ _ (omega arith) (omega arith) (sym c.ondex_fits.ensures ∙ c.if-not-ondex_fits.false) (omega arith))
+returns-then-s-at-gt1 c = sym (shaped_verified _ _ (omega arith) (omega arith) (sym c.ondex_fits.ensures ∙ c.if-not-ondex_fits.false) (omega arith))
 
 pub returns : goal.returns
-returns c = sym (shaped-rest _ _ (omega arith) (omega arith) (sym c.ondex_fits.ensures ∙ c.if-not-ondex_fits.false) (omega arith))
+returns c = sym (shaped_rest _ _ (omega arith) (omega arith) (sym c.ondex_fits.ensures ∙ c.if-not-ondex_fits.false) (omega arith))

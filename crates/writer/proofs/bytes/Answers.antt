@@ -3,7 +3,7 @@ use mathlib.Core.Bool.{not}
 use Prim.Native.Nat.{◌+◌, ◌-◌, ◌≤◌}
 use native.Mathlib.Omega.{arith}
 use lib.ListN.{length, drop}
-use Rattle.writer.proofs.Laws.{is-room, is_none, no_room, whole, Left, bytes-start, bytes-more, bytes-end}
+use Rattle.writer.proofs.Laws.{is_room, is_none, no_room, whole, Left, bytes-start, bytes_more, bytes-end}
 use borrow.Author.Rules.{rules}
 use Rattle.writer.proofs.bytes.Goals as goal
 
@@ -14,7 +14,7 @@ returns-then-not-room c = let a = c.args in
 
 pub loop-i-preserved : goal.loop-i-preserved
 loop-i-preserved c = let l = c.loop-i in
-    (search rules, search rules, search rules, search rules, bytes-more _ _ _ _ l.i l.invariant.4 (omega arith) (omega arith))
+    (search rules, search rules, search rules, search rules, bytes_more _ _ _ _ l.i l.invariant.4 (omega arith) (omega arith))
 
 pub returns : goal.returns
 returns c = let a = c.args in

@@ -4,7 +4,7 @@ use Prim.Native.Nat.{◌+◌, ◌≤◌}
 use native.Mathlib.Omega.{arith}
 use lib.ListN.{length}
 use Rattle.writer.specs.Writing.{be, over}
-use Rattle.writer.proofs.Laws.{is-room, is_none, no_room, whole, length-be, be-digits, digits-less, digits-end}
+use Rattle.writer.proofs.Laws.{is_room, is_none, no_room, whole, length-be, be-digits, digits_less, digits-end}
 use borrow.Author.Rules.{rules}
 use Rattle.writer.proofs.number.Goals as goal
 
@@ -15,7 +15,7 @@ returns-then-not-room c = let a = c.args in
 
 pub loop-i-preserved : goal.loop-i-preserved
 loop-i-preserved c = let l = c.loop-i in
-    (search rules, search rules, search rules, digits-less be-digits _ _ _ l.i l.x (omega arith) (omega arith) l.invariant.3)
+    (search rules, search rules, search rules, digits_less be-digits _ _ _ l.i l.x (omega arith) (omega arith) l.invariant.3)
 
 pub returns : goal.returns
 returns c = let a = c.args in
