@@ -1,12 +1,12 @@
 -- Lines in the output buffer, records in the window. Assumes nothing.
-use Rattle.std.proofs.Common.{◌≡◌, refl, sym, ap, ◌∙◌, List, ◌++◌, ℕ, ◌+◌, ◌-◌, ◌≤◌, arith, append_assoc, length, take, length-append, length-take-le, take_at, le-leb}
+use Rattle.std.proofs.Common.{◌≡◌, refl, sym, ap, ◌∙◌, List, ◌++◌, ℕ, ◌+◌, ◌≤◌, arith, append_assoc, length, take, length-append, length-take-le, take_at, le-leb}
 use Rattle.answer.specs.declared.Answer.{Answer}
 use Rattle.state.specs.declared.Holder.{Holder}
 use Rattle.state.specs.State.{is_held}
 use Rattle.format.specs.Parse.{Parse, got, bad, num_at}
 use Rattle.cursor.proofs.Laws.{pair_got, pair_short}
 use Rattle.writer.specs.Writing.{over}
-use Rattle.lines.specs.Lines.{line, longest, written}
+use Rattle.lines.specs.Lines.{longest, written}
 use Rattle.lines.proofs.Laws.{line_few, end_few}
 use Rattle.report.specs.declared.Tally.{Tally}
 use Rattle.report.specs.declared.Told.{Told}

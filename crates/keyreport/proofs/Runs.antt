@@ -5,7 +5,7 @@
 --     run_begins         at the first turn
 --     run_goes_on        a record
 --     run_ends           the input's end
-use Rattle.std.proofs.Common.{◌≡◌, refl, sym, ap, ◌∙◌, subst, List, [], ◌∷◌, ◌++◌, inl, inr, ℕ, zero, suc, ◌+◌, ◌-◌, ◌≤◌, ◌<◌, arith, append_assoc, length, take, drop, get_or, length-drop, Option, Some, None, IfSome, Result, Ok, Err, OnOk, Fits, w8}
+use Rattle.std.proofs.Common.{◌≡◌, refl, sym, ap, ◌∙◌, subst, List, [], ◌∷◌, ◌++◌, inr, ℕ, suc, ◌+◌, ◌-◌, ◌≤◌, ◌<◌, arith, append_assoc, length, take, drop, get_or, length-drop, Option, Some, None, IfSome, Result, Ok, Err, OnOk, Fits, w8}
 use Rattle.std.specs.Io.KnownBytes.{Appends}
 use Rattle.std.proofs.KnownBytes.{Appends-nil, Appends-trans}
 use Rattle.answer.specs.declared.Answer.{Answer}
@@ -22,14 +22,13 @@ use Rattle.in_place.proofs.Theorems.{offer-kept}
 use Rattle.report.specs.declared.Tally.{Tally}
 use Rattle.report.specs.declared.Told.{Told}
 use Rattle.report.specs.Report.{untold, counted, line_of, last_line, told, cut_answer, reported, report}
-use Rattle.report.proofs.Stream.{Whole, cut_step, cut_keeps, end_step}
+use Rattle.report.proofs.Stream.{Whole, cut_step, end_step}
 use Rattle.stream.specs.declared.Span.{Span}
 use Rattle.stream.specs.declared.Place.{Place}
 use Rattle.stream.specs.declared.Next.{Next}
 use Rattle.stream.specs.declared.Next.TheVariants as N
 use Rattle.stream.specs.Window.{size_of, Stands}
 use Rattle.stream.specs.Left.{left_of, Begins, Gives}
-use Rattle.keyreport.specs.declared.Room.{Room}
 use Rattle.keyreport.specs.declared.Room.TheVariants as R
 use Rattle.keyreport.specs.Run.{mark_at, body_at, Flushed, cut_lines, Finished}
 use Rattle.keyreport.proofs.Laws.{told_tally, told_behind}

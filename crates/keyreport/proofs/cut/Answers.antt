@@ -1,5 +1,4 @@
-use Rattle.std.proofs.Common.{rules, arith}
-use Rattle.in_place.specs.Calls.{offered_in}
+use Rattle.std.proofs.Common.{arith}
 use Rattle.keyreport.proofs.Laws.{told_in}
 use Rattle.keyreport.proofs.Runs.{cut_told}
 use Rattle.keyreport.proofs.cut.Goals as goal

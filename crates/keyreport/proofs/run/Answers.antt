@@ -1,4 +1,4 @@
-use Rattle.std.proofs.Common.{rules, arith, refl, ◌≡◌, ◌≤◌, ◌<◌, length}
+use Rattle.std.proofs.Common.{arith, refl}
 use Rattle.keyreport.proofs.Laws.{told_in}
 use Rattle.keyreport.proofs.Runs.{bytes_of, run_begins, run_goes_on, run_ends}
 use Rattle.keyreport.proofs.run.Goals as goal
