@@ -1,5 +1,5 @@
 -- "Config traits are 1 EstOnly, 2 DoNotDelegate, 3 to 15 for others"; at most 8, in any order, repeats allowed.
-use Rattle.std.specs.Prelude.{ℕ, List, [], ◌∷◌, Bool, true, false, eqb, leb, take, drop, length}
+use Rattle.std.specs.Prelude.{ℕ, List, Bool, eqb, leb, take, drop, length}
 use Rattle.lists.specs.Lists.{pick, both, any, all, padded}
 use Rattle.config.specs.declared.Config.{Config}
 

@@ -6,14 +6,14 @@
 --     span_values          scanning a list and copying it after is reading it
 use mathlib.Core.Path.{◌≡◌, refl, sym, ap, ◌∙◌}
 use mathlib.Core.Bool.{Bool, true, false}
-use mathlib.Core.List.{List, [], ◌∷◌, ◌++◌, append-nil}
+use mathlib.Core.List.{List, ◌∷◌, ◌++◌, []}
 use Prim.Native.Nat.{ℕ, zero, suc, ◌+◌, ◌*◌, ◌^◌, ◌-◌, ◌≤◌, ◌<◌}
-use native.Mathlib.Nat.{pow-le-pow_right, pow-suc, zero-mul, suc-mul, add-zero, add_assoc, add_comm, add-sub_cancel_left, le_refl, le_of_eq}
+use native.Mathlib.Nat.{pow-le-pow_right, pow-suc, zero-mul, suc-mul, add-zero, add_assoc, add_comm, add-sub_cancel_left}
 use native.Mathlib.Numerals.{add-one}
 use native.Mathlib.Omega.{arith}
 use lib.Dec.{lit<, leb, ltb}
-use lib.ListN.{length, take, drop, get_or, set, replicate, length-take, length-drop, drop_of_length-le}
-use lib.Seq.{take-suc, take-take, get_or-drop}
+use lib.ListN.{length, take, drop, get_or, set, replicate, length-drop}
+use lib.Seq.{take-suc, get_or-drop}
 use borrow.Author.Tests.{le-leb, lt-leb, lt-ltb, le-ltb, leb-true, leb-false, ltb-true}
 use Rattle.lists.specs.Lists.{pick, padded}
 use Rattle.lists.proofs.Facts.{clash}

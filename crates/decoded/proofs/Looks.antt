@@ -3,7 +3,7 @@
 --     local-..          one law for each way to make a reader
 use mathlib.Core.Path.{◌≡◌, refl, ap, ◌∙◌}
 use mathlib.Core.Bool.{Bool, true, false}
-use mathlib.Core.List.{List, [], ◌∷◌}
+use mathlib.Core.List.{List, ◌∷◌, []}
 use Prim.Native.Nat.{ℕ, zero, suc, ◌+◌, ◌*◌, ◌≤◌, ◌<◌}
 use native.Mathlib.Nat.{zero-mul, suc-mul, mul-le-mul_right}
 use native.Mathlib.Omega.{arith}

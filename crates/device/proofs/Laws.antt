@@ -1,14 +1,13 @@
 -- From the first record, the scan of a threshold and the details to what each call tells. Assumes nothing.
-use mathlib.Core.Path.{◌≡◌, refl, sym, ◌∙◌, ap}
+use mathlib.Core.Path.{◌≡◌, sym, ◌∙◌, ap}
 use mathlib.Core.Bool.{false}
 use mathlib.Core.List.{List}
 use Prim.Native.Nat.{ℕ}
 use borrow.Author.Tests.{eq-eqb, ne_eqb}
-use lib.Dec.{eqb}
 use lib.ListN.{length}
 use Rattle.answer.specs.declared.Answer.{Answer}
 use Rattle.threshold.specs.declared.Threshold.{Threshold}
-use Rattle.format.specs.Parse.{Parse, bind, ended}
+use Rattle.format.specs.Parse.{bind, ended}
 use Rattle.cursor.specs.Spans.{mapped}
 use Rattle.layout.specs.Records.{first_of, next_in}
 use Rattle.threshold_field.specs.declared.Marks.{Marks}

@@ -5,7 +5,7 @@
 --     is_copy, no_copy                   one step of the search: a first one that is equal; a copy passed over or a first one that differs
 use mathlib.Core.Path.{◌≡◌, refl, sym, ap, ◌∙◌}
 use mathlib.Core.Bool.{Bool, true, false, not}
-use mathlib.Core.List.{List, [], ◌∷◌, ◌++◌}
+use mathlib.Core.List.{List, ◌∷◌, ◌++◌, []}
 use Prim.Native.Nat.{ℕ, zero, suc, ◌+◌, ◌*◌, ◌-◌, ◌^◌, ◌<◌, ◌≤◌}
 use native.Mathlib.Nat.{one-mul, zero-mul, zero-add, add-zero}
 use native.Mathlib.Numerals.{add-one}

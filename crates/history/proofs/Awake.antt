@@ -1,7 +1,7 @@
 -- What demand 2's definition shuts out: a holder that always refuses, one with a constant answer, and one that says 0 and does
 -- nothing. By three offers that antt computes. Assumes nothing.
 use mathlib.Core.Path.{◌≡◌, refl, ap}
-use mathlib.Core.List.{[], ◌∷◌}
+use mathlib.Core.List.{◌∷◌, []}
 use mathlib.Core.Bool.{true, false}
 use Prim.Native.Nat.{ℕ}
 use lib.ListN.{replicate}

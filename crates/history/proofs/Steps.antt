@@ -1,6 +1,6 @@
 -- One step of a run: a refusal leaves the holder, an acceptance steps it as the unchecked fold does, by the next number. Assumes nothing.
 use mathlib.Core.Path.{◌≡◌, refl, sym, ◌∙◌, ap}
-use mathlib.Core.List.{List, [], ◌∷◌}
+use mathlib.Core.List.{List, ◌∷◌, []}
 use mathlib.Core.Bool.{Bool, true, false}
 use Prim.Native.Nat.{ℕ, ◌+◌}
 use Rattle.lists.specs.Lists.{pick}

@@ -3,8 +3,8 @@
 --     no_gap           from an empty holder their numbers are 0, 1, 2, ..
 --     struck_out       with the refused ones struck out the same is held, so every later answer is the same (later_answers),
 --     all-accepted     and each of the others is accepted again
-use mathlib.Core.Path.{◌≡◌, refl, sym, ◌∙◌, ap}
-use mathlib.Core.List.{List, [], ◌∷◌}
+use mathlib.Core.Path.{◌≡◌, refl, ◌∙◌, ap}
+use mathlib.Core.List.{List, ◌∷◌, []}
 use mathlib.Core.Bool.{Bool, true, false}
 use Prim.Native.Nat.{ℕ}
 use lib.ListN.{length, replicate}

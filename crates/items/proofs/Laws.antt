@@ -5,7 +5,7 @@ use mathlib.Core.List.{List, []}
 use Prim.Native.Nat.{ℕ, ◌≤◌}
 use native.Mathlib.Omega.{arith}
 use lib.Dec.{leb}
-use lib.ListN.{length, drop, length-map, length-take}
+use lib.ListN.{length, drop, length-take}
 use mir.Val.{Val}
 use denote.Laws.{Is}
 use borrow.Author.Tests.{leb-true}

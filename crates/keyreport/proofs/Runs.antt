@@ -5,7 +5,7 @@
 --     run_begins         at the first turn
 --     run_goes_on        a record
 --     run_ends           the input's end
-use Rattle.std.proofs.Common.{◌≡◌, refl, sym, ap, ◌∙◌, subst, List, [], ◌∷◌, ◌++◌, inr, ℕ, suc, ◌+◌, ◌-◌, ◌≤◌, ◌<◌, arith, append_assoc, length, take, drop, get_or, length-drop, Option, Some, None, IfSome, Result, Ok, Err, OnOk, Fits, w8}
+use Rattle.std.proofs.Common.{◌≡◌, refl, sym, ap, ◌∙◌, subst, List, ◌∷◌, ◌++◌, inr, ℕ, suc, ◌+◌, ◌-◌, ◌≤◌, ◌<◌, arith, append_assoc, length, take, drop, get_or, length-drop, Option, Some, None, IfSome, Result, Ok, Err, OnOk, Fits, w8, []}
 use Rattle.std.specs.Io.KnownBytes.{Appends}
 use Rattle.std.proofs.KnownBytes.{Appends-nil, Appends-trans}
 use Rattle.answer.specs.declared.Answer.{Answer}

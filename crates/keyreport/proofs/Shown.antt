@@ -3,7 +3,7 @@
 -- Runs says so of a whole run. Assumes nothing.
 --     step_shown                   the record in the window, for a holder
 --     answer_shown, state_shown    the call on the state's bytes, beside the holder's; cut_shown: where the input ends
-use Rattle.std.proofs.Common.{◌≡◌, refl, sym, ap, ◌∙◌, List, [], ◌++◌, inl, inr, Bool, true, false, ℕ, suc, ◌+◌, ◌-◌, ◌≤◌, ◌<◌, add-zero, arith, leb, length, take, drop, get_or, length-drop, get_or-drop, get_or-take, drop-drop, le-leb, leb-false}
+use Rattle.std.proofs.Common.{◌≡◌, refl, sym, ap, ◌∙◌, List, ◌++◌, inl, inr, Bool, true, false, ℕ, suc, ◌+◌, ◌-◌, ◌≤◌, ◌<◌, add-zero, arith, leb, length, take, drop, get_or, length-drop, get_or-drop, get_or-take, drop-drop, le-leb, leb-false, []}
 use Rattle.state.specs.declared.Holder.{Holder}
 use Rattle.empty.specs.Empty.{nothing}
 use Rattle.layout.specs.Records.{mark_of, body_length}

@@ -1,6 +1,6 @@
 -- Document 01's example, "1 DR 8 0 0", "2 ?? 1 0 0", "end 0 2 -", and the least and the largest detail, computed. Assumes nothing.
 use mathlib.Core.Path.{◌≡◌, refl}
-use mathlib.Core.List.{[], ◌∷◌}
+use mathlib.Core.List.{◌∷◌, []}
 use mathlib.Core.Bool.{false}
 use lib.ListN.{replicate}
 use Rattle.number.specs.declared.Number.{Number}

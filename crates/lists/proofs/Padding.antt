@@ -1,13 +1,13 @@
 -- A list in an array: what its used part is, and what one more element does to it. Assumes nothing.
 use mathlib.Core.Path.{◌≡◌, refl, sym, ◌∙◌, ap}
-use mathlib.Core.List.{List, [], ◌∷◌, ◌++◌, append_assoc}
-use mathlib.Core.Bool.{Bool, true, false}
+use mathlib.Core.List.{List, ◌∷◌, ◌++◌, append_assoc, []}
+use mathlib.Core.Bool.{Bool, true}
 use Prim.Native.Nat.{ℕ, suc, ◌<◌, ◌≤◌, ◌+◌, ◌-◌}
 use native.Mathlib.Numerals.{add-one}
 use native.Mathlib.Omega.{arith}
 use lib.ListN.{length, drop, take, set, get_or, replicate, length-append, length-replicate, replicate-append-replicate, length-take, length-drop, take-append-drop}
 use lib.Seq.{take-append_seam, drop-append_seam, set-append_seam, take-append-add, take_at, take-suc, take-suc-set}
-use Rattle.lists.specs.Lists.{both, all, padded}
+use Rattle.lists.specs.Lists.{all, padded}
 use Rattle.lists.proofs.Facts.{both_true}
 
 module _ {A : Type 0} (z : A) where

@@ -2,8 +2,8 @@
 --     head_of, head_at     the element at a place stands first in what is left: of a whole list, of an array's used part
 --     any-, all-, first-, filter-   what one more place does to what is left; `-end`: nothing is left
 --     same-                the same along two lists of numbers
-use mathlib.Core.Path.{◌≡◌, refl, sym, ◌∙◌, ap}
-use mathlib.Core.List.{List, [], ◌∷◌, ◌++◌}
+use mathlib.Core.Path.{◌≡◌, refl}
+use mathlib.Core.List.{List, [], ◌∷◌}
 use mathlib.Core.Bool.{Bool, true, false, ◌&&◌}
 use Prim.Native.Nat.{ℕ, zero, suc, ◌<◌, ◌≤◌, ◌+◌}
 use native.Mathlib.Numerals.{add-one}
@@ -12,8 +12,7 @@ use lib.ListN.{length, drop, take, get_or, length-take, drop_of_length-le}
 use lib.Seq.{drop-cons, get_or-take}
 use lib.Dec.{eqb}
 use borrow.Author.Tests.{eq-eqb, ne_eqb}
-use Rattle.lists.specs.Lists.{pick, both, either, any, all, filter, first_from, same_numbers}
-use Rattle.lists.specs.declared.Found.{Found}
+use Rattle.lists.specs.Lists.{both, any, all, filter, first_from, same_numbers}
 use Rattle.lists.specs.declared.Found.TheVariants.{At, Nothing}
 
 -- an element that is there is the same under any default

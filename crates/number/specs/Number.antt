@@ -1,5 +1,5 @@
 -- Sequence numbers are 0 to 2^128-1, as a high and a low 64-bit word.
-use Rattle.std.specs.Prelude.{ℕ, ◌+◌, ◌*◌, ◌/◌, ◌%◌, ◌^◌, Bool, true, false, eqb, ltb}
+use Rattle.std.specs.Prelude.{ℕ, ◌+◌, ◌*◌, ◌/◌, ◌%◌, ◌^◌, Bool, eqb, ltb}
 use Rattle.lists.specs.Lists.{pick, both}
 use Rattle.number.specs.declared.Number.{Number}
 use Rattle.number.specs.declared.Successor.{Successor}

@@ -2,14 +2,13 @@
 -- assumes of the string only that its numbers are below 256.
 use mathlib.Core.Path.{◌≡◌, refl, sym, ◌∙◌, ap}
 use mathlib.Core.Bool.{Bool, true, false}
-use mathlib.Core.List.{List, [], ◌∷◌, ◌++◌}
+use mathlib.Core.List.{List, ◌∷◌, ◌++◌, []}
 use Prim.Native.Nat.{ℕ, zero, suc, ◌+◌}
 use lib.Dec.{eqb, leb}
 use lib.ListN.{length, take, drop}
 use Rattle.lists.specs.Lists.{pick, both}
 use Rattle.runs.specs.Runs.{end_of}
 use Rattle.runs.proofs.Theorems.{end-append}
-use Rattle.answer.specs.declared.Answer.{Answer}
 use Rattle.answer.specs.Answer.{refused, accepted, passes}
 use Rattle.state.specs.declared.Holder.{Holder}
 use Rattle.state.specs.State.{is_held, holding}

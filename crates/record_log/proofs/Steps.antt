@@ -1,24 +1,19 @@
 -- One record of a run: a refusal leaves the holder, an acceptance steps it as the unchecked fold does, by the next number. Assumes nothing.
 use mathlib.Core.Path.{◌≡◌, refl, sym, ◌∙◌, ap}
 use mathlib.Core.Bool.{Bool, true, false}
-use mathlib.Core.List.{List, [], ◌∷◌}
-use Prim.Native.Nat.{ℕ, zero, suc, ◌+◌, ◌≤◌}
+use mathlib.Core.List.{List, ◌∷◌, []}
+use Prim.Native.Nat.{ℕ, zero, suc, ◌+◌}
 use native.Mathlib.Omega.{arith}
 use borrow.Author.Tests.{eqb-true}
 use lib.Dec.{eqb, leb}
 use lib.ListN.{length, take, drop}
 use Rattle.lists.specs.Lists.{pick, both}
 use Rattle.lists.proofs.Facts.{clash}
-use Rattle.number.specs.Number.{value}
-use Rattle.answer.specs.declared.Answer.{Answer}
 use Rattle.answer.specs.Answer.{refused, accepted, passes}
-use Rattle.event.specs.declared.Event.{Event}
-use Rattle.state.specs.declared.KeyState.{KeyState}
 use Rattle.state.specs.declared.Holder.{Holder}
-use Rattle.state.specs.State.{is_held, holding}
+use Rattle.state.specs.State.{is_held}
 use Rattle.shape.specs.State.{holder_shape}
 use Rattle.ingest.specs.declared.Offered.{Offered}
-use Rattle.ingest.specs.Judgement.{offered}
 use Rattle.history.proofs.Steps as events
 use Rattle.history.proofs.Steps.{expects}
 use Rattle.decoded.specs.Decoded.{Shaped}
@@ -28,7 +23,7 @@ use Rattle.layout.specs.Records.{Content, event, snapshot, refusal, content_of, 
 use Rattle.ingest.specs.Judgement.{turned_away}
 use Rattle.receive.specs.Received.{taken, unless_bad}
 use Rattle.receive.proofs.Laws.{stays_first}
-use Rattle.record_log.specs.Log.{records_from, given, after, answer_at, takes, fold_step, RunsOn}
+use Rattle.record_log.specs.Log.{records_from, after, answer_at, takes, fold_step, RunsOn}
 
 -- ---- a refusal leaves the holder as it came
 pub stays : (h : Holder) (f : First) → takes h f ≡ false → after h f ≡ h

@@ -5,9 +5,9 @@
 --     struck_out       with the refused ones struck out the same is held, so every later answer is the same (later_answers),
 --     all-accepted     and each of the others is accepted again
 --     by_parts, first_bytes_decide, cut_short     what a reader may do that holds only a part of a long record
-use mathlib.Core.Path.{◌≡◌, refl, sym, ◌∙◌, ap}
+use mathlib.Core.Path.{◌≡◌, refl, sym, ap}
 use mathlib.Core.Bool.{Bool, true, false}
-use mathlib.Core.List.{List, [], ◌∷◌}
+use mathlib.Core.List.{List, ◌∷◌, []}
 use Prim.Native.Nat.{ℕ, ◌+◌, ◌≤◌}
 use borrow.Author.Tests.{le-leb, lt-leb, ltb-true, ltb-false}
 use lib.Dec.{ltb}

@@ -4,7 +4,7 @@
 --     cut_step      bytes that are no record: 1, and the last line
 --     end_step      nothing left: the last line
 use mathlib.Core.Path.{◌≡◌, refl, sym, ap, ◌∙◌}
-use mathlib.Core.List.{List, [], ◌∷◌, ◌++◌}
+use mathlib.Core.List.{List, ◌∷◌, ◌++◌, []}
 use mathlib.Core.Bool.{Bool, true, false}
 use mathlib.Core.Logic.{◌⊎◌, ⊎_elim}
 use Prim.Native.Nat.{ℕ, suc, ◌+◌, ◌≤◌, ◌<◌}

@@ -3,7 +3,7 @@
 --     decoded_real     of every mark and every body
 use mathlib.Core.Path.{◌≡◌, refl}
 use mathlib.Core.Bool.{Bool, true, false}
-use mathlib.Core.List.{List, [], ◌∷◌}
+use mathlib.Core.List.{List, ◌∷◌, []}
 use Prim.Native.Nat.{ℕ, zero, suc, ◌+◌, ◌*◌, ◌^◌, ◌≤◌, ◌<◌}
 use native.Mathlib.Nat.{mul_assoc, mul_comm, one-mul, pow-suc, mul-le-mul_right, lt_of_lt_of_le}
 use native.Mathlib.Omega.{arith}

@@ -3,9 +3,9 @@
 --     Took                           what an acceptance says, by the event's kind
 --     good_stays, good_folds         the shape
 --     real_stays, real_folds         the arrays and numbers
-use mathlib.Core.Path.{◌≡◌, refl, sym, ◌∙◌}
+use mathlib.Core.Path.{◌≡◌, refl, sym}
 use mathlib.Core.Bool.{Bool, true, false}
-use mathlib.Core.List.{List, [], ◌∷◌, ◌++◌}
+use mathlib.Core.List.{List, ◌∷◌, ◌++◌, []}
 use Prim.Native.Nat.{◌≤◌}
 use native.Mathlib.Omega.{arith}
 use lib.Dec.{leb}
@@ -15,7 +15,7 @@ use Rattle.history.proofs.Steps.{first_passes, list-fits, live}
 use Rattle.lists.specs.Lists.{pick, all, filter}
 use Rattle.lists.proofs.Facts.{clash, both_true}
 use Rattle.answer.specs.declared.Answer.{Answer}
-use Rattle.answer.specs.Answer.{refused, accepted, passes, first_refusal}
+use Rattle.answer.specs.Answer.{refused, accepted, passes}
 use Rattle.item.specs.declared.Item.{Item}
 use Rattle.item.specs.declared.Kind.{Kind}
 use Rattle.item.specs.declared.Kind.TheVariants.{Prefix, Key, Said}
@@ -39,7 +39,7 @@ use Rattle.number.specs.declared.Number.{Number}
 use Rattle.number.specs.Number.{small}
 use Rattle.shape.specs.Event.{first_head, later_head, own_shape, next_shape, body_shape, shape_as, event_shape}
 use Rattle.shape.specs.State.{state_head, state_tail, state_shape, holder_shape}
-use Rattle.rules.specs.Rules.{rotation, rewitness, new_witnesses}
+use Rattle.rules.specs.Rules.{new_witnesses}
 use Rattle.ingest.specs.Judgement.{offered, answer_to, judgement, on_state, on_nothing, where_live, next_state, next_as, rotates}
 use Rattle.shape.proofs.Laws.{no_fault, item_fits_lem}
 use Rattle.snapshot.proofs.Shapes.{GoodState, good_state}

@@ -3,7 +3,7 @@
 --     struck_out       with the others struck out the same is held, so every later answer is the same (later_answers),
 --     all-taken        and each of the taken ones is taken again
 use mathlib.Core.Path.{◌≡◌, refl, sym, ◌∙◌, ap}
-use mathlib.Core.List.{List, [], ◌∷◌, ◌++◌}
+use mathlib.Core.List.{List, ◌∷◌, ◌++◌, []}
 use mathlib.Core.Bool.{Bool, true, false}
 use lib.ListN.{length, replicate}
 use Rattle.lists.specs.Lists.{pick}

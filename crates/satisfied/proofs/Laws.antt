@@ -4,7 +4,7 @@
 --     count-..             how many numbers a list names, place by place
 --     by-..                a judgement over a list, from its set and its number
 use mathlib.Core.Path.{◌≡◌, refl, sym, ◌∙◌, ap}
-use mathlib.Core.List.{List, [], ◌∷◌}
+use mathlib.Core.List.{List, ◌∷◌, []}
 use mathlib.Core.Bool.{Bool, true, false}
 use Prim.Native.Nat.{ℕ, ◌<◌, ◌≤◌, ◌+◌}
 use native.Mathlib.Omega.{arith}

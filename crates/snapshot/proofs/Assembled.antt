@@ -2,7 +2,7 @@
 --     joined_body, framed_body, saved-placed    the runs of a state give its record, which is what saving writes
 --     stepped-bytes, stepped-length             an interaction's point over a record is the record of the state that it makes
 use mathlib.Core.Path.{◌≡◌, refl, sym, ◌∙◌}
-use mathlib.Core.List.{List, [], ◌∷◌, ◌++◌, append_assoc}
+use mathlib.Core.List.{List, ◌∷◌, ◌++◌, append_assoc, []}
 use mathlib.Core.Bool.{Bool, true, false, not}
 use Prim.Native.Nat.{ℕ, ◌+◌, ◌≤◌, ◌<◌}
 use native.Mathlib.Omega.{arith}

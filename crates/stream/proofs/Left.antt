@@ -4,7 +4,7 @@
 --     hold_left                     what was left of the input is left
 --     short_gives, long_gives, ..   the record that what is left begins with, or that it is less than a record
 --     wrote_more                    as a loop writes on behind what it wrote
-use Rattle.std.proofs.Common.{◌≡◌, refl, sym, ap, ◌∙◌, subst, List, [], ◌++◌, ℕ, ◌+◌, ◌-◌, ◌≤◌, ◌<◌, arith, append_assoc, length, take, drop, length-append, length-drop, length-take-le, take-add, take-take, drop-drop, drop_at, Option, Some, None, IfSome}
+use Rattle.std.proofs.Common.{◌≡◌, refl, sym, ap, ◌∙◌, subst, List, ◌++◌, ℕ, ◌+◌, ◌-◌, ◌≤◌, ◌<◌, arith, append_assoc, length, take, drop, length-append, length-drop, length-take-le, take-add, take-take, drop-drop, drop_at, Option, Some, None, IfSome, []}
 use lib.Seq.{take-append-le, drop-append-le}
 use Rattle.std.proofs.lemmas.List.{drop-take}
 use Rattle.std.specs.Io.KnownBytes.{prepend_known, Keeps, Consumes, Appends}

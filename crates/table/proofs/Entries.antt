@@ -1,6 +1,6 @@
 -- A property of all numbers to 28, and from 30 to 38, is one of every entry's answers; with 41, also of saving and of the calls on
 -- a state in a buffer. Assumes nothing.
-use mathlib.Core.List.{List, [], ◌∷◌}
+use mathlib.Core.List.{List, ◌∷◌, []}
 use Prim.Native.Nat.{ℕ, ◌≤◌}
 use mathlib.Core.Bool.{Bool}
 use native.Mathlib.Omega.{arith}

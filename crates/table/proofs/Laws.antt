@@ -3,7 +3,7 @@
 --     then_in      a check, and what is behind it where the check passes
 --     first_in     the checks in order; fault_in: the shape of fields in order
 use mathlib.Core.Path.{◌≡◌, refl}
-use mathlib.Core.List.{List, [], ◌∷◌}
+use mathlib.Core.List.{List, ◌∷◌, []}
 use mathlib.Core.Bool.{Bool, true, false}
 use Prim.Native.Nat.{ℕ}
 use lib.Dec.{eqb}

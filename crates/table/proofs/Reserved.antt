@@ -6,7 +6,7 @@
 --     no_fold_gets_29, .., no_saving_gets_29     the unchecked fold, asking and saving, which have no such check at all
 --     removing_changes_nothing                   demand 2's definition with the check and without, answer and next state
 use mathlib.Core.Path.{◌≡◌, refl, ap}
-use mathlib.Core.List.{List, [], ◌∷◌}
+use mathlib.Core.List.{List, ◌∷◌, []}
 use Prim.Native.Nat.{ℕ, ◌≤◌}
 use native.Mathlib.Omega.{arith}
 use borrow.Author.Tests.{eqb-true}

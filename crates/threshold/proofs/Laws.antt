@@ -5,12 +5,12 @@
 --     reached, short, all_reached   clause after clause
 --     judged-same          only the places below 16 matter to a judgement
 use mathlib.Core.Path.{◌≡◌, refl, sym, ◌∙◌}
-use mathlib.Core.List.{List, [], ◌∷◌}
+use mathlib.Core.List.{List, ◌∷◌, []}
 use mathlib.Core.Bool.{Bool, true, false}
 use Prim.Native.Nat.{ℕ, zero, suc, ◌<◌, ◌≤◌, ◌+◌, ◌-◌}
 use native.Mathlib.Omega.{arith}
 use lib.Dec.{eqb, ltb, leb}
-use lib.ListN.{length, drop, take, length-take, length-drop, length-map, drop_of_length-le}
+use lib.ListN.{length, drop, take, length-take, length-drop, drop_of_length-le}
 use lib.Seq.{drop-drop, take-nil}
 use mir.Val.{Val}
 use denote.Laws.{Is}

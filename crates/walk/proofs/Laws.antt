@@ -1,7 +1,7 @@
 -- The walk, one record at a time. Assumes nothing.
 use mathlib.Core.Path.{◌≡◌, refl, sym, ◌∙◌, ap}
 use mathlib.Core.Bool.{Bool, true, false}
-use mathlib.Core.List.{List, [], ◌∷◌}
+use mathlib.Core.List.{List, ◌∷◌, []}
 use Prim.Native.Nat.{ℕ, ◌+◌, ◌-◌, ◌<◌, ◌≤◌}
 use native.Mathlib.Omega.{arith}
 use borrow.Author.Tests.{ne_eqb, eq-eqb}
@@ -11,14 +11,13 @@ use Rattle.lists.specs.Lists.{pick}
 use Rattle.runs.specs.Runs.{end_of, kept_of}
 use Rattle.answer.specs.declared.Answer.{Answer}
 use Rattle.answer.specs.Answer.{passes}
-use Rattle.state.specs.declared.Holder.{Holder}
 use Rattle.ingest.specs.declared.Offered.{Offered}
 use Rattle.layout.specs.Records.{First, first_of, next_in}
 use Rattle.receive.specs.Received.{received}
 use Rattle.record_log.specs.Log.{given, records_of}
 use Rattle.record_log.proofs.Laws.{bounds, records_none, records_next, call_given}
 use Rattle.found.specs.Kept.{Kept, kept_in}
-use Rattle.in_place.specs.Calls.{Left, settled_in, untouched, on_state, offered_in}
+use Rattle.in_place.specs.Calls.{Left, on_state, offered_in}
 use Rattle.walk.specs.declared.Walked.{Walked}
 use Rattle.walk.specs.Walk.{Lent, lent, left_by, after, takes, end_in, walked_in, counted_in}
 

@@ -1,7 +1,6 @@
 use mathlib.Core.Path.{sym, ◌∙◌}
 use Rattle.threshold.proofs.Laws.{weights_16}
 use Rattle.attainable.proofs.Laws.{ill_shaped, too_many, by_all}
-use borrow.Author.Rules.{rules}
 use Rattle.attainable.proofs.attainable.Goals as goal
 
 pub returns-then-fault-ne0 : goal.returns-then-fault-ne0

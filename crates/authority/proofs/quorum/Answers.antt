@@ -1,7 +1,6 @@
 use mathlib.Core.Path.{sym, ◌∙◌}
 use Rattle.threshold.proofs.Laws.{weights_16}
 use Rattle.authority.proofs.Laws.{quorum_met, quorum-short}
-use borrow.Author.Rules.{rules}
 use Rattle.authority.proofs.quorum.Goals as goal
 
 pub returns-in-Met : goal.returns-in-Met

@@ -1,6 +1,5 @@
 use mathlib.Core.Path.{◌∙◌}
 use Rattle.authority.proofs.Laws.{receipts-none, witnessed_is}
-use borrow.Author.Rules.{rules}
 use Rattle.authority.proofs.receipted_by.Goals as goal
 
 pub returns-then-w-eq0 : goal.returns-then-w-eq0

@@ -1,7 +1,6 @@
 use mathlib.Core.Path.{◌∙◌}
 use Rattle.places.specs.Places.{places_in}
 use Rattle.authority.proofs.Laws.{receipts-enough, receipts_few}
-use borrow.Author.Rules.{rules}
 use Rattle.authority.proofs.receipts.Goals as goal
 
 pub returns-then-toad-n : goal.returns-then-toad-n

@@ -1,6 +1,5 @@
 use mathlib.Core.Path.{◌∙◌}
 use Rattle.authority.proofs.Laws.{verifies_is}
-use borrow.Author.Rules.{rules}
 use Rattle.authority.proofs.verify.Goals as goal
 
 pub returns : goal.returns

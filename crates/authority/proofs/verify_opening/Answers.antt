@@ -1,6 +1,5 @@
 use mathlib.Core.Path.{◌∙◌}
 use Rattle.authority.proofs.Laws.{opens-short, opens-signed}
-use borrow.Author.Rules.{rules}
 use Rattle.authority.proofs.verify_opening.Goals as goal
 
 pub returns-then-signed-ne0 : goal.returns-then-signed-ne0

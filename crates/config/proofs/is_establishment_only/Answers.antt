@@ -1,12 +1,9 @@
-use mathlib.Core.Path.{◌≡◌, refl, sym, ◌∙◌}
-use Prim.Native.Nat.{◌-◌}
+use mathlib.Core.Path.{sym, ◌∙◌}
 use native.Mathlib.Omega.{arith}
 use Rattle.lists.proofs.Walks.{head_at, used-end, array_end, any_next, any_here, any-end}
 use borrow.Author.Tests.{eq-eqb, ne_eqb}
 use lib.Dec.{eqb}
-use Rattle.lists.specs.Lists.{any}
-use lib.ListN.{length, drop, take}
-use borrow.Author.Rules.{rules}
+use lib.ListN.{take}
 use Rattle.config.proofs.is_establishment_only.Goals as goal
 
 pub returns-then-n-i : goal.returns-then-n-i

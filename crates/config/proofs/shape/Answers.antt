@@ -1,7 +1,6 @@
 use mathlib.Core.Path.{sym, ◌∙◌}
 use Rattle.config.specs.Config.{shape_of}
-use borrow.Author.Tests.{lt-leb, le-leb, not-true, not-false}
-use borrow.Author.Rules.{rules}
+use borrow.Author.Tests.{lt-leb, le-leb}
 use Rattle.config.proofs.shape.Goals as goal
 
 pub returns-then-c-gt8 : goal.returns-then-c-gt8

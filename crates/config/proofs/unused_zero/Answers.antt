@@ -1,12 +1,8 @@
-use mathlib.Core.Path.{◌≡◌, refl, sym, ◌∙◌}
-use Prim.Native.Nat.{◌-◌}
+use mathlib.Core.Path.{sym, ◌∙◌}
 use native.Mathlib.Omega.{arith}
 use Rattle.lists.proofs.Walks.{head_of, all-next, all_stop, all_end}
 use borrow.Author.Tests.{eq-eqb, ne_eqb}
 use lib.Dec.{eqb}
-use Rattle.lists.specs.Lists.{all}
-use lib.ListN.{length, drop}
-use borrow.Author.Rules.{rules}
 use Rattle.config.proofs.unused_zero.Goals as goal
 
 pub returns-then-traits-i-ne0 : goal.returns-then-traits-i-ne0

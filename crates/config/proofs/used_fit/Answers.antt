@@ -1,12 +1,8 @@
-use mathlib.Core.Path.{◌≡◌, refl, sym, ◌∙◌}
-use Prim.Native.Nat.{◌-◌}
+use mathlib.Core.Path.{sym, ◌∙◌}
 use native.Mathlib.Omega.{arith}
 use Rattle.lists.proofs.Walks.{head_at, used-end, array_end, all-next, all_stop, all_end}
-use borrow.Author.Tests.{not-true, not-false}
 use Rattle.config.specs.Config.{is_trait}
-use Rattle.lists.specs.Lists.{all}
-use lib.ListN.{length, drop, take}
-use borrow.Author.Rules.{rules}
+use lib.ListN.{take}
 use Rattle.config.proofs.used_fit.Goals as goal
 
 pub returns-then-n-i : goal.returns-then-n-i

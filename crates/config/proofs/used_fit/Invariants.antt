@@ -1,8 +1,5 @@
-use mathlib.Core.Path.{◌≡◌, refl, sym, ◌∙◌}
+use mathlib.Core.Path.{◌≡◌}
 use Prim.Native.Nat.{◌-◌}
-use native.Mathlib.Omega.{arith}
-use Rattle.lists.proofs.Walks.{head_at, used-end, array_end, all-next, all_stop, all_end}
-use borrow.Author.Tests.{not-true, not-false}
 use Rattle.config.specs.Config.{is_trait}
 use Rattle.lists.specs.Lists.{all}
 use lib.ListN.{length, drop, take}

@@ -1,9 +1,7 @@
-use mathlib.Core.Path.{◌≡◌, sym, subst}
-use Prim.Native.Nat.{ℕ, ◌+◌, ◌-◌, ◌^◌, ◌≤◌, ◌<◌}
-use native.Mathlib.Omega.{arith}
+use mathlib.Core.Path.{◌≡◌}
+use Prim.Native.Nat.{◌-◌, ◌^◌, ◌≤◌, ◌<◌}
 use lib.ListN.{take, drop}
 use Rattle.format.specs.Parse.{be_from}
-use Rattle.cursor.proofs.Laws.{be_more, room, grows, num_short, num_is}
 use Rattle.cursor.proofs.big_endian.Given as goal
 
 abbrev pub invariant-loop-i : goal.invariant-loop-i

@@ -1,7 +1,6 @@
 use mathlib.Core.Path.{refl, sym}
 use native.Mathlib.Omega.{arith}
 use Rattle.cursor.proofs.Laws.{raw-short, raw-copied}
-use borrow.Author.Rules.{rules}
 use Rattle.cursor.proofs.copy64.Goals as goal
 
 pub returns-then-len-at : goal.returns-then-len-at

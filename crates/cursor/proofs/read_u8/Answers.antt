@@ -1,7 +1,6 @@
 use mathlib.Core.Path.{sym}
 use native.Mathlib.Omega.{arith}
 use Rattle.cursor.proofs.Laws.{byte_got, byte-short}
-use borrow.Author.Rules.{rules}
 use Rattle.cursor.proofs.read_u8.Goals as goal
 
 pub returns-then-at-s : goal.returns-then-at-s

@@ -1,6 +1,5 @@
-use mathlib.Core.Path.{◌≡◌, refl, sym, ◌∙◌, ap}
+use mathlib.Core.Path.{◌∙◌}
 use Rattle.device.proofs.Laws.{attainable_unread, attainable-over, attainable_whole}
-use borrow.Author.Rules.{rules}
 use Rattle.device.proofs.attainable_in.Goals as goal
 
 pub returns-then-end-s : goal.returns-then-end-s

@@ -1,5 +1,4 @@
 use Rattle.device.proofs.Laws.{length_of}
-use borrow.Author.Rules.{rules}
 use Rattle.device.proofs.keystate_length.Goals as goal
 
 pub returns : goal.returns

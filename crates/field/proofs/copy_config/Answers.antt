@@ -3,7 +3,6 @@ use Rattle.config.specs.Config.{packed_traits}
 use Rattle.cursor.proofs.Laws.{many_over, many_short, many_got}
 use Rattle.field.specs.Field.{config_of}
 use mathlib.Core.Path.{sym, ◌∙◌, ap}
-use borrow.Author.Rules.{rules}
 use Rattle.field.proofs.copy_config.Goals as goal
 
 pub returns-then-n-gt8 : goal.returns-then-n-gt8

@@ -1,7 +1,6 @@
 use native.Mathlib.Omega.{arith}
 use Rattle.field.proofs.Laws.{item_is, item_none}
 use mathlib.Core.Path.{◌∙◌}
-use borrow.Author.Rules.{rules}
 use Rattle.field.proofs.copy_item.Goals as goal
 
 pub returns-then-s-at : goal.returns-then-s-at

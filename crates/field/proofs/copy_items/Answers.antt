@@ -3,7 +3,6 @@ use Rattle.items.specs.Items.{packed}
 use Rattle.cursor.proofs.Laws.{many_over, many_short, many_got}
 use Rattle.field.specs.Field.{items_of}
 use mathlib.Core.Path.{sym, ◌∙◌, ap}
-use borrow.Author.Rules.{rules}
 use Rattle.field.proofs.copy_items.Goals as goal
 
 pub returns-then-n-gt16 : goal.returns-then-n-gt16

@@ -4,8 +4,7 @@ use mathlib.Core.List.{List}
 use lib.ListN.{length}
 use Rattle.item.specs.declared.Item.{Item}
 use Rattle.cursor.proofs.Laws.{many_over, many_short, many_got, list_length}
-use Rattle.field.specs.Field.{items_of, item_of}
-use borrow.Author.Rules.{rules}
+use Rattle.field.specs.Field.{items_of}
 use Rattle.field.proofs.count_items.Goals as goal
 
 pub returns-then-n-gt16 : goal.returns-then-n-gt16

@@ -1,11 +1,10 @@
 use native.Mathlib.Omega.{arith}
-use Prim.Native.Nat.{◌+◌, ◌*◌, ◌-◌, ◌≤◌}
-use Rattle.lists.specs.Lists.{padded}
+use Prim.Native.Nat.{◌-◌}
 use Rattle.cursor.specs.Spans.{list_of}
 use Rattle.cursor.proofs.Laws.{list_more}
 use Rattle.field.specs.Field.{byte_of}
 use Rattle.field.proofs.Laws.{traits_is}
-use mathlib.Core.Path.{◌≡◌, refl}
+use mathlib.Core.Path.{refl}
 use borrow.Author.Rules.{rules}
 use Rattle.field.proofs.fill_config.Goals as goal
 

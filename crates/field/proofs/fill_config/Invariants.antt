@@ -1,11 +1,8 @@
-use native.Mathlib.Omega.{arith}
 use Prim.Native.Nat.{◌+◌, ◌*◌, ◌-◌, ◌≤◌}
 use Rattle.lists.specs.Lists.{padded}
 use Rattle.cursor.specs.Spans.{list_of}
-use Rattle.cursor.proofs.Laws.{list_more}
 use Rattle.field.specs.Field.{byte_of}
-use Rattle.field.proofs.Laws.{traits_is}
-use mathlib.Core.Path.{◌≡◌, refl}
+use mathlib.Core.Path.{◌≡◌}
 use Rattle.field.proofs.fill_config.Given as goal
 
 abbrev pub invariant-loop-i : goal.invariant-loop-i

@@ -1,11 +1,8 @@
-use native.Mathlib.Omega.{arith}
 use Prim.Native.Nat.{◌+◌, ◌*◌, ◌-◌, ◌≤◌}
 use Rattle.lists.specs.Lists.{padded}
 use Rattle.item.specs.Item.{zero_item}
 use Rattle.cursor.specs.Spans.{list_of}
-use Rattle.cursor.proofs.Laws.{list_more}
 use Rattle.field.specs.Field.{item_of}
-use Rattle.field.proofs.Laws.{items_none, items_is}
 use mathlib.Core.Path.{◌≡◌}
 use Rattle.field.proofs.fill_items.Given as goal
 

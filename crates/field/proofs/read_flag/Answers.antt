@@ -2,7 +2,6 @@ use borrow.Author.Tests.{le-leb, lt-leb}
 use Rattle.format.specs.Fields.{flag_at}
 use Rattle.cursor.specs.Cursor.{is8}
 use mathlib.Core.Path.{sym, ◌∙◌, ap}
-use borrow.Author.Rules.{rules}
 use Rattle.field.proofs.read_flag.Goals as goal
 
 pub returns-in_default : goal.returns-in_default

@@ -1,7 +1,6 @@
 use Rattle.format.specs.Fields.{sn_at}
 use Rattle.cursor.specs.Cursor.{is64}
 use mathlib.Core.Path.{sym, ◌∙◌, ap}
-use borrow.Author.Rules.{rules}
 use Rattle.field.proofs.read_sn.Goals as goal
 
 pub returns-in_default : goal.returns-in_default

@@ -1,7 +1,6 @@
 use native.Mathlib.Omega.{arith}
 use Rattle.field.proofs.Laws.{place_short, place_got, place_bad}
 use mathlib.Core.Path.{sym, ◌∙◌}
-use borrow.Author.Rules.{rules}
 use Rattle.field.proofs.scan_item.Goals as goal
 
 pub returns-then-len-at : goal.returns-then-len-at

@@ -2,7 +2,6 @@ use mathlib.Core.Bool.{true, false}
 use Rattle.cursor.specs.Cursor.{is8}
 use Rattle.field.proofs.Laws.{trait_short, trait_is}
 use mathlib.Core.Path.{sym, ◌∙◌, ap}
-use borrow.Author.Rules.{rules}
 use Rattle.field.proofs.scan_trait.Goals as goal
 
 pub returns-in_default : goal.returns-in_default

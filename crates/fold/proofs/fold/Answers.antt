@@ -3,7 +3,6 @@ use Rattle.state.specs.State.{holding}
 use Rattle.ingest.proofs.Laws.{bad_holder, bad_event, good_shape}
 use Rattle.fold.specs.Fold.{foldable, fold_answer, fold_state, folded}
 use Rattle.fold.proofs.Laws.{clean_fold}
-use borrow.Author.Rules.{rules}
 use Rattle.fold.proofs.fold.Goals as goal
 
 pub returns-then-n-ne0 : goal.returns-then-n-ne0

@@ -1,6 +1,5 @@
-use mathlib.Core.Path.{◌≡◌, ◌∙◌, ap}
+use mathlib.Core.Path.{◌∙◌}
 use Rattle.fold.proofs.Laws.{fold_as}
-use borrow.Author.Rules.{rules}
 use Rattle.fold.proofs.fold_as.Goals as goal
 
 pub returns-in-Inception : goal.returns-in-Inception

@@ -1,9 +1,7 @@
-use mathlib.Core.Path.{◌≡◌, ◌∙◌, ap}
+use mathlib.Core.Path.{◌∙◌}
 use mathlib.Core.Bool.{true, false}
-use borrow.Author.Tests.{not-true, not-false}
 use Rattle.state.proofs.Laws.{is_held_lem}
 use Rattle.fold.proofs.Laws.{none-held, overfull, rolls}
-use borrow.Author.Rules.{rules}
 use Rattle.fold.proofs.roll.Goals as goal
 
 pub returns-then-not-held : goal.returns-then-not-held

@@ -1,9 +1,7 @@
-use mathlib.Core.Path.{◌≡◌, ◌∙◌, ap}
+use mathlib.Core.Path.{◌∙◌}
 use mathlib.Core.Bool.{true, false}
-use borrow.Author.Tests.{not-true, not-false}
 use Rattle.state.proofs.Laws.{is_held_lem}
 use Rattle.fold.proofs.Laws.{none-held, steps}
-use borrow.Author.Rules.{rules}
 use Rattle.fold.proofs.step.Goals as goal
 
 pub returns-then-not-held : goal.returns-then-not-held

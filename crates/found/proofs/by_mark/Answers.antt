@@ -1,7 +1,6 @@
 use mathlib.Core.Path.{refl}
 use Rattle.layout.specs.Records.{content_of}
 use Rattle.found.proofs.Laws.{of_mark, unknown}
-use borrow.Author.Rules.{rules}
 use Rattle.found.proofs.by_mark.Goals as goal
 
 pub returns-then-mark-eq18755 : goal.returns-then-mark-eq18755

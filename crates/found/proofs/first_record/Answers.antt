@@ -2,7 +2,7 @@ use mathlib.Core.Path.{sym, ◌∙◌, ap}
 use native.Mathlib.Omega.{arith}
 use Rattle.cursor.specs.Cursor.{is16}
 use Rattle.cursor.proofs.Laws.{pair_got, pair_short}
-use Rattle.found.proofs.Laws.{first_short_lem, first_past, first-mark, within, behind, four}
+use Rattle.found.proofs.Laws.{first_short_lem, first_past, first-mark, within, behind}
 use borrow.Author.Rules.{rules}
 use Rattle.found.proofs.first_record.Goals as goal
 

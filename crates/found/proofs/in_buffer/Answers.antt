@@ -1,6 +1,5 @@
 use native.Mathlib.Omega.{arith}
 use Rattle.found.proofs.Laws.{not-zero, kept-over, kept-within, framed-within, room}
-use borrow.Author.Rules.{rules}
 use Rattle.found.proofs.in_buffer.Goals as goal
 
 pub returns-then-buf-used : goal.returns-then-buf-used

@@ -1,8 +1,5 @@
 use native.Mathlib.Omega.{arith}
-use Prim.Native.Nat.{◌≤◌}
-use lib.ListN.{length}
 use Rattle.found.proofs.Laws.{not-zero, first_is_lem, first-within, state_empty, state_short, state_other, state_unread, state_over, state_whole}
-use borrow.Author.Rules.{rules}
 use Rattle.found.proofs.in_bytes.Goals as goal
 
 pub returns-then-len-eq0 : goal.returns-then-len-eq0

@@ -1,5 +1,4 @@
 use Rattle.in_place.proofs.Folds.{asked_state, asked-nothing, asked_bad}
-use borrow.Author.Rules.{rules}
 use Rattle.in_place.proofs.ask.Goals as goal
 
 pub returns-in-Of : goal.returns-in-Of

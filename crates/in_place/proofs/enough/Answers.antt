@@ -1,5 +1,4 @@
 use Rattle.in_place.proofs.Held.{enough-short, enough-long}
-use borrow.Author.Rules.{rules}
 use Rattle.in_place.proofs.enough.Goals as goal
 
 pub returns-then-len-lt-DECIDING : goal.returns-then-len-lt-DECIDING

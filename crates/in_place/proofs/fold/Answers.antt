@@ -1,9 +1,6 @@
-use Prim.Native.Nat.{◌≤◌}
-use lib.ListN.{length}
-use Rattle.found.proofs.Laws.{first_is_lem, first-within}
+use Rattle.found.proofs.Laws.{first_is_lem}
 use Rattle.in_place.proofs.Held.{each_of, each_as}
 use Rattle.in_place.proofs.Folds.{first_short_lem, fold-first}
-use borrow.Author.Rules.{rules}
 use Rattle.in_place.proofs.fold.Goals as goal
 
 pub returns-in_default : goal.returns-in_default

@@ -5,9 +5,8 @@ use Rattle.record.specs.Marks.{event_of}
 use Rattle.fold_record.specs.Steps.{content_folded}
 use Rattle.found.specs.declared.Read as R
 use Rattle.in_place.specs.Steps.{state_at}
-use Rattle.in_place.proofs.Held.{placed_as, read_left, unread_left}
+use Rattle.in_place.proofs.Held.{read_left, unread_left}
 use Rattle.in_place.proofs.Folds.{interaction-settled, delegated-inception, delegated-rotation, snapshot_settled}
-use borrow.Author.Rules.{rules}
 use Rattle.in_place.proofs.fold_held.Goals as goal
 
 pub returns-in-Interaction : goal.returns-in-Interaction

@@ -1,7 +1,4 @@
-use Prim.Native.Nat.{◌≤◌}
-use Rattle.in_place.proofs.Parts.{four_used}
 use Rattle.in_place.proofs.Folds.{list-folded}
-use borrow.Author.Rules.{rules}
 use Rattle.in_place.proofs.fold_list.Goals as goal
 
 pub returns : goal.returns

@@ -2,9 +2,8 @@ use mathlib.Core.Path.{refl}
 use Rattle.empty.specs.Empty.{nothing}
 use Rattle.fold_record.specs.Steps.{content_folded}
 use Rattle.found.specs.declared.Read as R
-use Rattle.in_place.proofs.Held.{placed_as, read_left, read_answer, unread_left}
+use Rattle.in_place.proofs.Held.{read_answer, unread_left}
 use Rattle.in_place.proofs.Folds.{no-rotation, no-interaction, delegated-inception, delegated-rotation, snapshot_settled}
-use borrow.Author.Rules.{rules}
 use Rattle.in_place.proofs.fold_nothing.Goals as goal
 
 pub returns-in-Rotation : goal.returns-in-Rotation

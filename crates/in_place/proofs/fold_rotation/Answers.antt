@@ -4,7 +4,6 @@ use Rattle.parts.specs.Parts.{body_of}
 use Rattle.record.specs.Marks.{event_of}
 use Rattle.in_place.specs.Steps.{state_at}
 use Rattle.in_place.proofs.Folds.{list-packed, list_few, rotation-refused, rotation-settled}
-use borrow.Author.Rules.{rules}
 use Rattle.in_place.proofs.fold_rotation.Goals as goal
 
 pub returns-then-x-ne0 : goal.returns-then-x-ne0

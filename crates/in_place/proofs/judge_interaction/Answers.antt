@@ -1,14 +1,10 @@
-use Prim.Native.Nat.{◌≤◌}
 use mathlib.Core.Path.{◌∙◌, ap}
 use mathlib.Core.List.{List}
 use Prim.Native.Nat.{ℕ}
-use lib.ListN.{length}
-use Rattle.in_place.proofs.Parts.{four_used}
 use Rattle.in_place.proofs.Held.{run}
 use Rattle.event.specs.declared.Ilk.TheVariants.{Interaction}
 use Rattle.record.specs.Marks.{state_of, event_of}
 use Rattle.ingest.specs.Judgement.{interacts}
-use borrow.Author.Rules.{rules}
 use Rattle.in_place.proofs.judge_interaction.Goals as goal
 
 pub returns : goal.returns

@@ -1,16 +1,12 @@
-use Prim.Native.Nat.{◌≤◌}
 use mathlib.Core.Path.{◌∙◌, ap}
 use mathlib.Core.List.{List}
 use Prim.Native.Nat.{ℕ}
-use lib.ListN.{length}
-use Rattle.in_place.proofs.Parts.{four_used}
 use Rattle.in_place.proofs.Held.{run}
 use Rattle.event.specs.declared.Ilk.TheVariants.{Rotation}
 use Rattle.parts.specs.Parts.{body_of}
 use Rattle.record.specs.Marks.{state_of, event_of}
 use Rattle.rules.specs.Rules.{changed, new_witnesses}
 use Rattle.ingest.specs.Judgement.{rotates}
-use borrow.Author.Rules.{rules}
 use Rattle.in_place.proofs.judge_rotation.Goals as goal
 
 pub returns : goal.returns

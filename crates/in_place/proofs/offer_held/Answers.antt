@@ -7,9 +7,8 @@ use Rattle.record.specs.Marks.{state_of, event_of}
 use Rattle.receive.specs.Judged.{content_judged}
 use Rattle.found.specs.declared.Read as R
 use Rattle.in_place.specs.Steps.{state_at}
-use Rattle.in_place.proofs.Held.{placed_as, read_left, read_answer, unread_left}
+use Rattle.in_place.proofs.Held.{read_answer, unread_left}
 use Rattle.in_place.proofs.Answers.{away-left, held_snapshot}
-use borrow.Author.Rules.{rules}
 use Rattle.in_place.proofs.offer_held.Goals as goal
 
 pub returns-in-Inception : goal.returns-in-Inception

@@ -4,7 +4,6 @@ use Rattle.event.specs.declared.Ilk.TheVariants.{Inception}
 use Rattle.record.specs.Marks.{event_of}
 use Rattle.in_place.proofs.Written.{prefix_read}
 use Rattle.in_place.proofs.Answers.{judged-nothing, nothing_left, nothing-took}
-use borrow.Author.Rules.{rules}
 use Rattle.in_place.proofs.offer_inception.Goals as goal
 
 pub returns-then-x-ne0 : goal.returns-then-x-ne0

@@ -1,12 +1,10 @@
 use mathlib.Core.Bool.{true, false}
 use Rattle.answer.specs.declared.Answer.{Answer}
 use mathlib.Core.Path.{◌∙◌, ap}
-use borrow.Author.Tests.{not-true, not-false}
 use Rattle.event.specs.declared.Ilk.TheVariants.{Interaction}
 use Rattle.record.specs.Marks.{event_of}
 use Rattle.in_place.specs.Steps.{state_at, left}
 use Rattle.in_place.proofs.Answers.{moves, closed_left, live_left, live_took, clean_interacts}
-use borrow.Author.Rules.{rules}
 use Rattle.in_place.proofs.offer_interaction.Goals as goal
 
 pub returns-then-not-live : goal.returns-then-not-live

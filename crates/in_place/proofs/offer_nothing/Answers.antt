@@ -6,9 +6,8 @@ use Rattle.layout.specs.Records.{delegated}
 use Rattle.record.specs.Marks.{state_of, event_of}
 use Rattle.receive.specs.Judged.{content_judged}
 use Rattle.found.specs.declared.Read as R
-use Rattle.in_place.proofs.Held.{placed_as, read_left, read_answer, unread_left}
+use Rattle.in_place.proofs.Held.{read_left, read_answer, unread_left}
 use Rattle.in_place.proofs.Answers.{nothing-away, nothing_snapshot}
-use borrow.Author.Rules.{rules}
 use Rattle.in_place.proofs.offer_nothing.Goals as goal
 
 pub returns-in-Rotation : goal.returns-in-Rotation

@@ -4,14 +4,12 @@ use Rattle.member_set.specs.declared.Change.{Change}
 use mathlib.Core.Path.{◌∙◌, ap}
 use Rattle.items.specs.declared.Items.{Items}
 use Rattle.state.specs.State.{rotated}
-use borrow.Author.Tests.{not-true, not-false}
 use Rattle.event.specs.declared.Ilk.TheVariants.{Rotation}
 use Rattle.parts.specs.Parts.{head_of, body_of}
 use Rattle.record.specs.Marks.{event_of}
 use Rattle.in_place.specs.Calls.{settled_in}
 use Rattle.in_place.specs.Steps.{state_at, left, took}
-use Rattle.in_place.proofs.Answers.{moves, closed_left, live_left, live_took, clean_rotates, new_list, new_few}
-use borrow.Author.Rules.{rules}
+use Rattle.in_place.proofs.Answers.{moves, closed_left, live_left, live_took, clean_rotates, new_list}
 use Rattle.in_place.proofs.offer_rotation.Goals as goal
 
 pub returns-then-not-live : goal.returns-then-not-live

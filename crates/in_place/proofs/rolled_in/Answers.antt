@@ -1,8 +1,5 @@
 use Rattle.parts.specs.Parts.{head_of, body_of}
-use Prim.Native.Nat.{◌≤◌}
-use lib.ListN.{length}
-use Rattle.in_place.proofs.Parts.{four_used, rolled-part}
-use borrow.Author.Rules.{rules}
+use Rattle.in_place.proofs.Parts.{rolled-part}
 use Rattle.in_place.proofs.rolled_in.Goals as goal
 
 pub returns : goal.returns

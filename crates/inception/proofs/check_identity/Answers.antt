@@ -1,7 +1,5 @@
 use mathlib.Core.Path.{sym, ◌∙◌}
 use Rattle.inception.proofs.Laws.{not_basic, not_sole, may_commit_lem, may_not_commit}
-use borrow.Author.Tests.{not-true, not-false}
-use borrow.Author.Rules.{rules}
 use Rattle.inception.proofs.check_identity.Goals as goal
 
 pub returns-then-not-is_basic : goal.returns-then-not-is_basic

@@ -1,6 +1,5 @@
 use borrow.Author.Tests.{eq-eqb, ne_eqb}
 use Rattle.answer.specs.Answer.{first_refusal}
-use borrow.Author.Rules.{rules}
 use Rattle.inception.proofs.commits_nothing.Goals as goal
 
 pub returns-then-next-ne0 : goal.returns-then-next-ne0

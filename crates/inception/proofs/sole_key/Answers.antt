@@ -4,9 +4,8 @@ use Rattle.threshold.specs.Threshold.{is_simple}
 use Rattle.lists.specs.Lists.{both}
 use lib.Dec.{eqb}
 use mathlib.Core.Bool.{true, false}
-use borrow.Author.Tests.{eq-eqb, ne_eqb, not-true, not-false}
+use borrow.Author.Tests.{eq-eqb, ne_eqb}
 use Rattle.answer.specs.Answer.{first_refusal}
-use borrow.Author.Rules.{rules}
 use Rattle.inception.proofs.sole_key.Goals as goal
 
 pub returns-then-n-ne1 : goal.returns-then-n-ne1

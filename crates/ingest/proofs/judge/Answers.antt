@@ -1,10 +1,8 @@
 use mathlib.Core.Path.{◌≡◌}
 use mathlib.Core.Bool.{true, false}
-use borrow.Author.Tests.{not-true, not-false}
 use Rattle.state.specs.State.{is_held}
 use Rattle.state.proofs.Laws.{is_held_lem}
 use Rattle.ingest.specs.Judgement.{judgement}
-use borrow.Author.Rules.{rules}
 use Rattle.ingest.proofs.judge.Goals as goal
 
 pub returns-then-not-held : goal.returns-then-not-held

@@ -1,8 +1,7 @@
-use mathlib.Core.Path.{sym, ◌∙◌}
+use mathlib.Core.Path.{◌∙◌}
 use Rattle.state.specs.State.{holding}
 use Rattle.ingest.specs.Judgement.{judgement, answer_to, next_state, offered}
 use Rattle.ingest.proofs.Laws.{bad_holder, bad_event, good_shape, clean_judgement}
-use borrow.Author.Rules.{rules}
 use Rattle.ingest.proofs.offer.Goals as goal
 
 pub returns-then-n-ne0 : goal.returns-then-n-ne0

@@ -3,7 +3,6 @@ use Rattle.answer.specs.declared.Answer.{Answer}
 use Rattle.state.specs.State.{holding, seeded}
 use Rattle.ingest.specs.Judgement.{settled}
 use Rattle.ingest.proofs.Laws.{of_good, clean_inception, incept_lists}
-use borrow.Author.Rules.{rules}
 use Rattle.ingest.proofs.offer_inception.Goals as goal
 
 pub returns : goal.returns

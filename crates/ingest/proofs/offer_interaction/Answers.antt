@@ -4,7 +4,6 @@ use Rattle.state.specs.State.{holding}
 use Rattle.event.specs.declared.Ilk.TheVariants.{Interaction}
 use Rattle.ingest.specs.Judgement.{settled, next_as}
 use Rattle.ingest.proofs.Laws.{interact_lists}
-use borrow.Author.Rules.{rules}
 use Rattle.ingest.proofs.offer_interaction.Goals as goal
 
 pub returns : goal.returns

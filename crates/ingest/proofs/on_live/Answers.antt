@@ -1,6 +1,5 @@
 use mathlib.Core.Path.{◌∙◌}
 use Rattle.ingest.proofs.Laws.{live_as}
-use borrow.Author.Rules.{rules}
 use Rattle.ingest.proofs.on_live.Goals as goal
 
 pub returns-in-Rotation : goal.returns-in-Rotation

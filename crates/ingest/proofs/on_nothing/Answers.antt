@@ -2,7 +2,6 @@ use mathlib.Core.Path.{◌∙◌}
 use Rattle.event.specs.declared.Ilk.TheVariants.{Inception}
 use Rattle.shape.proofs.Laws.{shape_as_lem, good_prefix}
 use Rattle.ingest.proofs.Laws.{nothing_as}
-use borrow.Author.Rules.{rules}
 use Rattle.ingest.proofs.on_nothing.Goals as goal
 
 pub offer_inception-requires : goal.offer_inception-requires

@@ -1,10 +1,8 @@
 use mathlib.Core.Path.{◌≡◌}
 use mathlib.Core.Bool.{true, false}
-use borrow.Author.Tests.{not-true, not-false}
 use Rattle.state.specs.State.{may_move}
 use Rattle.state.proofs.Laws.{may_move_lem}
 use Rattle.ingest.specs.Judgement.{on_state}
-use borrow.Author.Rules.{rules}
 use Rattle.ingest.proofs.on_state.Goals as goal
 
 pub returns-then-not-live : goal.returns-then-not-live

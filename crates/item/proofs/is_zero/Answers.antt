@@ -1,7 +1,6 @@
 use mathlib.Core.Path.{sym}
 use borrow.Author.Tests.{eq-eqb, ne_eqb}
 use Rattle.item.specs.Item.{same_item}
-use borrow.Author.Rules.{rules}
 use Rattle.item.proofs.is_zero.Goals as goal
 
 pub returns-then-x-ne0 : goal.returns-then-x-ne0

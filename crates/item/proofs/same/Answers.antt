@@ -1,6 +1,5 @@
 use borrow.Author.Tests.{eq-eqb, ne_eqb}
 use Rattle.item.specs.Item.{same_item}
-use borrow.Author.Rules.{rules}
 use Rattle.item.proofs.same.Goals as goal
 
 pub returns-then-a-b : goal.returns-then-a-b

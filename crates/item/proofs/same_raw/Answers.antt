@@ -1,8 +1,5 @@
-use mathlib.Core.Path.{◌≡◌, refl, sym, ◌∙◌}
-use Prim.Native.Nat.{◌≤◌, ◌-◌}
+use mathlib.Core.Path.{sym, ◌∙◌}
 use native.Mathlib.Omega.{arith}
-use lib.ListN.{drop}
-use Rattle.lists.specs.Lists.{both, same_numbers}
 use Rattle.lists.proofs.Walks.{same_more, same_over}
 use borrow.Author.Rules.{rules}
 use Rattle.item.proofs.same_raw.Goals as goal

@@ -1,9 +1,7 @@
-use mathlib.Core.Path.{◌≡◌, refl, sym, ◌∙◌}
+use mathlib.Core.Path.{◌≡◌}
 use Prim.Native.Nat.{◌≤◌, ◌-◌}
-use native.Mathlib.Omega.{arith}
 use lib.ListN.{drop}
 use Rattle.lists.specs.Lists.{both, same_numbers}
-use Rattle.lists.proofs.Walks.{same_more, same_over}
 use Rattle.item.proofs.same_raw.Given as goal
 
 abbrev pub invariant-loop-i : goal.invariant-loop-i

@@ -1,8 +1,5 @@
-use mathlib.Core.Path.{◌≡◌, refl, sym, ◌∙◌}
-use Prim.Native.Nat.{◌≤◌, ◌-◌}
+use mathlib.Core.Path.{sym, ◌∙◌}
 use native.Mathlib.Omega.{arith}
-use lib.ListN.{drop, replicate}
-use Rattle.lists.specs.Lists.{both, same_numbers}
 use Rattle.item.proofs.Laws.{zero_more, zero-over}
 use borrow.Author.Rules.{rules}
 use Rattle.item.proofs.zero_raw.Goals as goal

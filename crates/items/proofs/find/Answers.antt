@@ -1,12 +1,9 @@
-use mathlib.Core.Path.{◌≡◌, refl, sym, ◌∙◌}
-use Prim.Native.Nat.{◌≤◌, ◌-◌}
+use mathlib.Core.Path.{sym, ◌∙◌}
 use native.Mathlib.Omega.{arith}
-use lib.ListN.{length, drop, take}
-use Rattle.lists.specs.Lists.{first_from}
 use Rattle.item.specs.Item.{same_item}
 use Rattle.lists.proofs.Walks.{head_at, used-end, array_end, first_here, first_next, first-end}
 use Rattle.items.specs.Items.{listed}
-use Rattle.items.proofs.Laws.{no_item, places-16}
+use Rattle.items.proofs.Laws.{no_item}
 use borrow.Author.Rules.{rules}
 use Rattle.items.proofs.find.Goals as goal
 

@@ -1,12 +1,8 @@
-use mathlib.Core.Path.{◌≡◌, refl, sym, ◌∙◌}
+use mathlib.Core.Path.{◌≡◌}
 use Prim.Native.Nat.{◌≤◌, ◌-◌}
-use native.Mathlib.Omega.{arith}
 use lib.ListN.{length, drop, take}
 use Rattle.lists.specs.Lists.{first_from}
 use Rattle.item.specs.Item.{same_item}
-use Rattle.lists.proofs.Walks.{head_at, used-end, array_end, first_here, first_next, first-end}
-use Rattle.items.specs.Items.{listed}
-use Rattle.items.proofs.Laws.{no_item, places-16}
 use Rattle.items.proofs.find.Given as goal
 
 abbrev pub invariant-loop-i : goal.invariant-loop-i

@@ -1,13 +1,8 @@
-use mathlib.Core.Path.{◌≡◌, refl, sym, ◌∙◌}
-use Prim.Native.Nat.{◌-◌}
+use mathlib.Core.Path.{sym, ◌∙◌}
 use native.Mathlib.Omega.{arith}
-use borrow.Author.Tests.{not-true, not-false}
-use lib.ListN.{length, drop}
-use Rattle.lists.specs.Lists.{all}
 use Rattle.lists.proofs.Walks.{head_of, all_stop, all-next, all_end}
 use Rattle.item.specs.Item.{is_zero}
-use Rattle.items.proofs.Laws.{no_item, places-16}
-use borrow.Author.Rules.{rules}
+use Rattle.items.proofs.Laws.{no_item}
 use Rattle.items.proofs.unused_zero.Goals as goal
 
 pub returns-then-not-is_zero : goal.returns-then-not-is_zero

@@ -1,12 +1,8 @@
-use mathlib.Core.Path.{◌≡◌, refl, sym, ◌∙◌}
+use mathlib.Core.Path.{◌≡◌}
 use Prim.Native.Nat.{◌-◌}
-use native.Mathlib.Omega.{arith}
-use borrow.Author.Tests.{not-true, not-false}
 use lib.ListN.{length, drop}
 use Rattle.lists.specs.Lists.{all}
-use Rattle.lists.proofs.Walks.{head_of, all_stop, all-next, all_end}
 use Rattle.item.specs.Item.{is_zero}
-use Rattle.items.proofs.Laws.{no_item, places-16}
 use Rattle.items.proofs.unused_zero.Given as goal
 
 abbrev pub invariant-loop-i : goal.invariant-loop-i

@@ -1,13 +1,9 @@
-use mathlib.Core.Path.{◌≡◌, refl, sym, ◌∙◌}
-use Prim.Native.Nat.{◌≤◌, ◌-◌}
+use mathlib.Core.Path.{sym, ◌∙◌}
 use native.Mathlib.Omega.{arith}
-use lib.ListN.{length, drop, take}
-use borrow.Author.Tests.{not-true, not-false}
-use Rattle.lists.specs.Lists.{all}
 use Rattle.item.specs.Item.{item_fits}
 use Rattle.lists.proofs.Walks.{head_at, used-end, array_end, all_stop, all-next, all_end}
 use Rattle.items.specs.Items.{listed}
-use Rattle.items.proofs.Laws.{no_item, places-16}
+use Rattle.items.proofs.Laws.{no_item}
 use borrow.Author.Rules.{rules}
 use Rattle.items.proofs.used_fit.Goals as goal
 

@@ -1,11 +1,5 @@
 use mathlib.Core.Path.{sym, ◌∙◌}
-use mathlib.Core.Path.{ap₂}
-use borrow.Author.Tests.{not-true}
-use Rattle.items.specs.declared.Items.{Items}
-use Rattle.threshold.specs.declared.Threshold.{Threshold}
-use Rattle.inception.specs.Identity.{identity}
 use Rattle.inception.proofs.Laws.{not_basic}
-use borrow.Author.Rules.{rules}
 use Rattle.judge.proofs.identity.Goals as goal
 
 pub returns-then-not-is_basic : goal.returns-then-not-is_basic

@@ -2,7 +2,6 @@ use mathlib.Core.Path.{refl, sym, ◌∙◌}
 use Rattle.answer.proofs.Laws.{here, past, last, clean_first}
 use Rattle.judge.specs.Parts.{evidence_at}
 use Rattle.judge.proofs.Laws.{inception_at_lem}
-use borrow.Author.Rules.{rules}
 use Rattle.judge.proofs.incept.Goals as goal
 
 pub returns-then-x-ne0 : goal.returns-then-x-ne0

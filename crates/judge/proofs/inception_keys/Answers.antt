@@ -2,7 +2,6 @@ use mathlib.Core.Path.{sym, ◌∙◌}
 use Rattle.answer.proofs.Laws.{here, past, last}
 use Rattle.rules.proofs.Laws.{clean_next}
 use Rattle.judge.specs.Parts.{threshold_at}
-use borrow.Author.Rules.{rules}
 use Rattle.judge.proofs.inception_keys.Goals as goal
 
 pub returns-then-x-ne0 : goal.returns-then-x-ne0

@@ -4,7 +4,6 @@ use Rattle.rules.specs.Rules.{may_interact}
 use Rattle.rules.proofs.Laws.{clean_receipts}
 use Rattle.judge.specs.Parts.{list_at, evidence_at}
 use Rattle.judge.proofs.Laws.{interaction_at_lem}
-use borrow.Author.Rules.{rules}
 use Rattle.judge.proofs.interact.Goals as goal
 
 pub returns-then-x-ne0 : goal.returns-then-x-ne0

@@ -1,8 +1,7 @@
 use mathlib.Core.Path.{sym, ◌∙◌}
 use Rattle.items.specs.Items.{listed}
 use Rattle.judge.specs.Parts.{list_at}
-use Rattle.judge.proofs.Laws.{change_same, no_change}
-use borrow.Author.Rules.{rules}
+use Rattle.judge.proofs.Laws.{no_change}
 use Rattle.judge.proofs.rewitness.Goals as goal
 
 pub returns-then-no_change : goal.returns-then-no_change

@@ -6,7 +6,6 @@ use Rattle.record.specs.Marks.{state_of}
 use Rattle.rules.specs.Rules.{new_witnesses, changed}
 use Rattle.rules.proofs.Laws.{change_stops}
 use Rattle.judge.proofs.Laws.{rewitness_in, rotation_at_lem}
-use borrow.Author.Rules.{rules}
 use Rattle.judge.proofs.rotate.Goals as goal
 
 pub returns-then-x-ne0 : goal.returns-then-x-ne0

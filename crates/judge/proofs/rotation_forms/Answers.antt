@@ -3,7 +3,6 @@ use Rattle.answer.proofs.Laws.{here, past, last}
 use Rattle.parts.specs.Parts.{commitment_of}
 use Rattle.rules.proofs.Laws.{clean_next}
 use Rattle.judge.specs.Parts.{next_form_at}
-use borrow.Author.Rules.{rules}
 use Rattle.judge.proofs.rotation_forms.Goals as goal
 
 pub returns-then-x-ne0 : goal.returns-then-x-ne0

@@ -2,7 +2,6 @@ use mathlib.Core.Path.{sym, ◌∙◌}
 use Rattle.answer.proofs.Laws.{here, past, last, clean_first}
 use Rattle.judge.specs.Parts.{chains_at, forms_at, signed_at}
 use Rattle.judge.proofs.Laws.{then_groups}
-use borrow.Author.Rules.{rules}
 use Rattle.judge.proofs.rotation_keys.Goals as goal
 
 pub returns-then-x-ne0 : goal.returns-then-x-ne0

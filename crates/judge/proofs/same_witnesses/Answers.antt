@@ -3,7 +3,6 @@ use Rattle.items.specs.declared.Items.{Items}
 use Rattle.items.specs.Items.{listed}
 use Rattle.judge.specs.Parts.{list_at}
 use Rattle.judge.proofs.Laws.{packed_at, listed_few, listed-count, same_toad, same-receipts, same_goes}
-use borrow.Author.Rules.{rules}
 use Rattle.judge.proofs.same_witnesses.Goals as goal
 
 pub returns-then-x-ne0 : goal.returns-then-x-ne0

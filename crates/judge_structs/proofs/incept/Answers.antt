@@ -2,7 +2,6 @@ use mathlib.Core.Path.{sym, ◌∙◌}
 use Rattle.evidence.specs.Evidence.{signed_on, receipted_on}
 use Rattle.answer.proofs.Laws.{here, past, last, clean_first}
 use Rattle.reserved.proofs.Laws.{witnesses_of, incepts}
-use borrow.Author.Rules.{rules}
 use Rattle.judge_structs.proofs.incept.Goals as goal
 
 pub returns-then-x-ne0 : goal.returns-then-x-ne0

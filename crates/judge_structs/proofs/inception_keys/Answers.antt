@@ -1,7 +1,6 @@
 use mathlib.Core.Path.{sym, ◌∙◌}
 use Rattle.answer.proofs.Laws.{here, past, last}
 use Rattle.rules.proofs.Laws.{clean_next}
-use borrow.Author.Rules.{rules}
 use Rattle.judge_structs.proofs.inception_keys.Goals as goal
 
 pub returns-then-x-ne0 : goal.returns-then-x-ne0

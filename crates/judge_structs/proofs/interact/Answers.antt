@@ -2,7 +2,6 @@ use mathlib.Core.Path.{sym, ◌∙◌}
 use Rattle.answer.proofs.Laws.{here, past, last}
 use Rattle.rules.specs.Rules.{interaction}
 use Rattle.rules.proofs.Laws.{clean_receipts}
-use borrow.Author.Rules.{rules}
 use Rattle.judge_structs.proofs.interact.Goals as goal
 
 pub returns-then-x-ne0 : goal.returns-then-x-ne0

@@ -6,7 +6,6 @@ use Rattle.answer.proofs.Laws.{here, past, last}
 use Rattle.rules.specs.Rules.{rewitness, new_witnesses, changed}
 use Rattle.rules.proofs.Laws.{change_stops}
 use Rattle.judge_structs.proofs.Laws.{rewitness_of, clean_rewitness, rotations}
-use borrow.Author.Rules.{rules}
 use Rattle.judge_structs.proofs.rotate.Goals as goal
 
 pub returns-then-x-ne0 : goal.returns-then-x-ne0

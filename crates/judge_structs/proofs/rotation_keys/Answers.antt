@@ -1,7 +1,6 @@
 use mathlib.Core.Path.{refl, sym, ◌∙◌}
 use Rattle.answer.proofs.Laws.{here, past, last}
 use Rattle.authority.proofs.Laws.{clean_quorum}
-use borrow.Author.Rules.{rules}
 use Rattle.judge_structs.proofs.rotation_keys.Goals as goal
 
 pub returns-then-x-ne0 : goal.returns-then-x-ne0

@@ -4,7 +4,6 @@ use Rattle.state.specs.declared.Holder.{Holder}
 use Rattle.ingest.specs.Judgement.{offered}
 use Rattle.lent_state.specs.declared.Ingested.{Ingested}
 use Rattle.lent_state.specs.Ingested.{ingested}
-use borrow.Author.Rules.{rules}
 use Rattle.lent_state.proofs.ingest.Goals as goal
 
 pub returns : goal.returns

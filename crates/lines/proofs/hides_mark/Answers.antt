@@ -2,7 +2,6 @@ use Rattle.lines.specs.Lines.{hides_mark}
 use borrow.Author.Tests.{eq-eqb, ne_eqb}
 use mathlib.Core.Path.{refl}
 use Prim.Native.Nat.{◌-◌}
-use borrow.Author.Rules.{rules}
 use Rattle.lines.proofs.hides_mark.Goals as goal
 
 pub returns-then-number-eq1 : goal.returns-then-number-eq1

@@ -1,7 +1,6 @@
 use Rattle.writer.proofs.Laws.{begin, fits, more, last}
 use Rattle.lines.specs.Lines.{space, feed, decimal_then, mark_then, detail_then, line}
 use Prim.Native.Nat.{◌-◌}
-use borrow.Author.Rules.{rules}
 use Rattle.lines.proofs.put_answer.Goals as goal
 
 pub put_decimal-p-requires : goal.put_decimal-p-requires

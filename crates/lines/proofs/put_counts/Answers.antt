@@ -1,8 +1,7 @@
 use Rattle.writer.proofs.Laws.{begin, fits, more, last, put_more}
 use Rattle.lines.specs.Lines.{space, feed, decimal_then, reached_then, end_line}
-use mathlib.Core.List.{[], ◌∷◌, ◌++◌}
+use mathlib.Core.List.{◌∷◌, ◌++◌, []}
 use Prim.Native.Nat.{◌+◌, ◌-◌}
-use borrow.Author.Rules.{rules}
 use Rattle.lines.proofs.put_counts.Goals as goal
 
 pub put_decimal-q-requires : goal.put_decimal-q-requires

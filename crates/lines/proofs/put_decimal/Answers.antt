@@ -1,6 +1,6 @@
 use Rattle.writer.proofs.Laws.{begin, fits, more, put_last}
 use Rattle.lines.specs.Lines.{decimal, decimal_then}
-use mathlib.Core.List.{[], ◌∷◌}
+use mathlib.Core.List.{◌∷◌, []}
 use Prim.Native.Nat.{◌-◌}
 use borrow.Author.Rules.{rules}
 use Rattle.lines.proofs.put_decimal.Goals as goal

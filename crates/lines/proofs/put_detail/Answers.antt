@@ -1,8 +1,7 @@
 use Rattle.writer.proofs.Laws.{begin, fits, more, put_last}
 use Rattle.lines.specs.Lines.{detail, detail_then}
-use mathlib.Core.List.{[], ◌∷◌}
+use mathlib.Core.List.{◌∷◌, []}
 use Prim.Native.Nat.{◌-◌}
-use borrow.Author.Rules.{rules}
 use Rattle.lines.proofs.put_detail.Goals as goal
 
 pub put_words-p-requires : goal.put_words-p-requires

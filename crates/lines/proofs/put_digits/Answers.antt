@@ -1,12 +1,7 @@
-use native.Mathlib.Nat.{mod-lt}
 use Rattle.lines.proofs.Laws.{digits_made, length_digits}
 use Rattle.writer.proofs.Laws.{digits_less, digits-end}
-use Rattle.lines.specs.Lines.{digits}
-use Rattle.writer.specs.Writing.{over}
-use mathlib.Core.Path.{◌≡◌}
-use Prim.Native.Nat.{◌+◌, ◌≤◌, ◌<◌, ◌-◌, ◌%◌}
+use Prim.Native.Nat.{◌-◌}
 use native.Mathlib.Omega.{arith}
-use lib.ListN.{length}
 use borrow.Author.Rules.{rules}
 use Rattle.lines.proofs.put_digits.Goals as goal
 

@@ -1,9 +1,8 @@
 use Rattle.lines.proofs.Laws.{line_few, fits, here, nothing}
 use Rattle.lines.specs.Lines.{line}
-use borrow.Author.Tests.{not-true, not-false, leb-true}
+use borrow.Author.Tests.{leb-true}
 use mathlib.Core.Path.{sym, ◌∙◌}
 use Prim.Native.Nat.{◌-◌}
-use borrow.Author.Rules.{rules}
 use Rattle.lines.proofs.put_line.Goals as goal
 
 pub returns-then-not-room : goal.returns-then-not-room

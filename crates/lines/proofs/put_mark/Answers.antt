@@ -2,7 +2,6 @@ use Rattle.writer.proofs.Laws.{same_bytes, same-room, wrote}
 use Rattle.lines.proofs.Laws.{hidden, shown}
 use mathlib.Core.Path.{sym, ◌∙◌}
 use Prim.Native.Nat.{◌-◌}
-use borrow.Author.Rules.{rules}
 use Rattle.lines.proofs.put_mark.Goals as goal
 
 pub returns-then-hides_mark : goal.returns-then-hides_mark

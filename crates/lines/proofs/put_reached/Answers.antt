@@ -1,9 +1,7 @@
 use Rattle.writer.proofs.Laws.{same_bytes, same-room, wrote}
 use Rattle.lines.proofs.Laws.{reached_held, reached_empty}
-use borrow.Author.Tests.{not-true, not-false}
 use mathlib.Core.Path.{sym}
 use Prim.Native.Nat.{◌-◌}
-use borrow.Author.Rules.{rules}
 use Rattle.lines.proofs.put_reached.Goals as goal
 
 pub returns-then-not-held : goal.returns-then-not-held

@@ -1,10 +1,6 @@
-use native.Mathlib.Nat.{sub-zero, zero-add}
 use Rattle.lines.proofs.Laws.{numeral_last, numeral-next, numeral-end}
-use Rattle.lines.specs.Lines.{numeral}
-use mathlib.Core.Path.{◌≡◌}
-use Prim.Native.Nat.{◌+◌, ◌≤◌, ◌-◌}
+use Prim.Native.Nat.{◌-◌}
 use native.Mathlib.Omega.{arith}
-use lib.ListN.{length}
 use borrow.Author.Rules.{rules}
 use Rattle.lines.proofs.size.Goals as goal
 

@@ -5,7 +5,6 @@ use Rattle.answer.specs.Answer.{refused}
 use Rattle.answer.proofs.Laws.{here, past, last, clean_if}
 use Rattle.member_set.specs.Parts.{delta_faults}
 use Rattle.member_set.proofs.Laws.{searched}
-use borrow.Author.Rules.{rules}
 use Rattle.member_set.proofs.check_deltas.Goals as goal
 
 pub returns-then-a-ne0 : goal.returns-then-a-ne0

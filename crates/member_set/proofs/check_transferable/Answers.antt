@@ -1,7 +1,6 @@
 use Rattle.item.specs.Item.{is_transferable}
 use Rattle.items.specs.Items.{listed}
 use Rattle.member_set.proofs.Laws.{searched}
-use borrow.Author.Rules.{rules}
 use Rattle.member_set.proofs.check_transferable.Goals as goal
 
 pub returns : goal.returns

@@ -5,7 +5,6 @@ use Rattle.items.specs.Items.{listed}
 use Rattle.answer.specs.Answer.{refused}
 use Rattle.answer.proofs.Laws.{here, past, last, clean_if}
 use Rattle.member_set.specs.Members.{witness_faults}
-use borrow.Author.Rules.{rules}
 use Rattle.member_set.proofs.check_witnesses.Goals as goal
 
 pub returns-then-a-ne0 : goal.returns-then-a-ne0

@@ -1,14 +1,11 @@
 use mathlib.Core.Bool.{not}
-use mathlib.Core.Path.{◌≡◌, refl, ap}
+use mathlib.Core.Path.{ap}
 use Prim.Native.Nat.{◌-◌}
 use native.Mathlib.Omega.{arith}
-use lib.ListN.{length, drop, take}
-use Rattle.lists.specs.Lists.{first_from}
 use Rattle.items.specs.Items.{listed}
-use Rattle.items.proofs.Laws.{no_item, places-16}
+use Rattle.items.proofs.Laws.{no_item}
 use Rattle.member_set.specs.Members.{absent}
 use Rattle.member_set.proofs.Laws.{found_here, found_next, found_none}
-use borrow.Author.Rules.{rules}
 use Rattle.member_set.proofs.first_absent.Goals as goal
 
 pub returns-then-not-has : goal.returns-then-not-has

@@ -1,12 +1,9 @@
-use mathlib.Core.Path.{◌≡◌, refl}
+use mathlib.Core.Path.{◌≡◌}
 use Prim.Native.Nat.{◌-◌}
-use native.Mathlib.Omega.{arith}
 use lib.ListN.{length, drop, take}
 use Rattle.lists.specs.Lists.{first_from}
 use Rattle.items.specs.Items.{listed}
-use Rattle.items.proofs.Laws.{no_item, places-16}
 use Rattle.member_set.specs.Members.{absent}
-use Rattle.member_set.proofs.Laws.{found_here, found_next, found_none}
 use Rattle.member_set.proofs.first_absent.Given as goal
 
 abbrev pub invariant-loop-i : goal.invariant-loop-i

@@ -1,17 +1,16 @@
-use mathlib.Core.Path.{◌≡◌, refl, sym, ◌∙◌, ap}
+use mathlib.Core.Path.{◌≡◌, sym, ◌∙◌, ap}
 use mathlib.Core.Bool.{true, false}
 use mathlib.Core.List.{List}
 use Prim.Native.Nat.{◌-◌}
 use native.Mathlib.Omega.{arith}
-use lib.ListN.{length, drop, take, get_or}
-use Rattle.lists.specs.Lists.{any, first_from}
+use lib.ListN.{take, get_or}
+use Rattle.lists.specs.Lists.{first_from}
 use Rattle.lists.proofs.Walks.{head_at, used-end, any_here, any_next, any-end}
 use Rattle.item.specs.declared.Item.{Item}
 use Rattle.item.specs.Item.{same_item}
 use Rattle.items.specs.Items.{listed, member}
-use Rattle.items.proofs.Laws.{no_item, places-16}
+use Rattle.items.proofs.Laws.{no_item}
 use Rattle.member_set.proofs.Laws.{found_here, found_next, found_none}
-use borrow.Author.Rules.{rules}
 use Rattle.member_set.proofs.first_overlap.Goals as goal
 
 pub loop-j-preserved : goal.loop-j-preserved

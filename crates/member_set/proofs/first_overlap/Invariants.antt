@@ -1,16 +1,9 @@
-use mathlib.Core.Path.{◌≡◌, refl, sym, ◌∙◌, ap}
-use mathlib.Core.Bool.{true, false}
-use mathlib.Core.List.{List}
+use mathlib.Core.Path.{◌≡◌}
 use Prim.Native.Nat.{◌-◌}
-use native.Mathlib.Omega.{arith}
-use lib.ListN.{length, drop, take, get_or}
+use lib.ListN.{length, drop, take}
 use Rattle.lists.specs.Lists.{any, first_from}
-use Rattle.lists.proofs.Walks.{head_at, used-end, any_here, any_next, any-end}
-use Rattle.item.specs.declared.Item.{Item}
 use Rattle.item.specs.Item.{same_item}
-use Rattle.items.specs.Items.{listed, member}
-use Rattle.items.proofs.Laws.{no_item, places-16}
-use Rattle.member_set.proofs.Laws.{found_here, found_next, found_none}
+use Rattle.items.specs.Items.{member}
 use Rattle.member_set.proofs.first_overlap.Given as goal
 
 abbrev pub invariant-loop-j : goal.invariant-loop-j

@@ -1,13 +1,8 @@
-use mathlib.Core.Path.{◌≡◌, refl, sym, ◌∙◌}
-use mathlib.Core.List.{[]}
+use mathlib.Core.Path.{sym, ◌∙◌}
 use Prim.Native.Nat.{◌-◌}
 use native.Mathlib.Omega.{arith}
-use lib.ListN.{length, drop, take}
 use Rattle.items.specs.Items.{listed}
-use Rattle.items.proofs.Laws.{places-16}
-use Rattle.member_set.specs.Members.{repeat_from}
 use Rattle.member_set.proofs.Laws.{repeat_here, repeat_next, repeat_none}
-use borrow.Author.Rules.{rules}
 use Rattle.member_set.proofs.first_repeat.Goals as goal
 
 pub returns-then-has : goal.returns-then-has

@@ -1,12 +1,8 @@
-use mathlib.Core.Path.{◌≡◌, refl, sym, ◌∙◌}
 use mathlib.Core.List.{[]}
+use mathlib.Core.Path.{◌≡◌}
 use Prim.Native.Nat.{◌-◌}
-use native.Mathlib.Omega.{arith}
 use lib.ListN.{length, drop, take}
-use Rattle.items.specs.Items.{listed}
-use Rattle.items.proofs.Laws.{places-16}
 use Rattle.member_set.specs.Members.{repeat_from}
-use Rattle.member_set.proofs.Laws.{repeat_here, repeat_next, repeat_none}
 use Rattle.member_set.proofs.first_repeat.Given as goal
 
 abbrev pub invariant-loop-i : goal.invariant-loop-i

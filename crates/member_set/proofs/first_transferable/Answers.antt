@@ -1,13 +1,10 @@
-use mathlib.Core.Path.{◌≡◌, refl, sym, ◌∙◌}
+use mathlib.Core.Path.{sym, ◌∙◌}
 use Prim.Native.Nat.{◌-◌}
 use native.Mathlib.Omega.{arith}
-use lib.ListN.{length, drop, take}
-use Rattle.lists.specs.Lists.{first_from}
 use Rattle.item.specs.Item.{is_transferable}
 use Rattle.items.specs.Items.{listed}
-use Rattle.items.proofs.Laws.{no_item, places-16}
+use Rattle.items.proofs.Laws.{no_item}
 use Rattle.member_set.proofs.Laws.{found_here, found_next, found_none}
-use borrow.Author.Rules.{rules}
 use Rattle.member_set.proofs.first_transferable.Goals as goal
 
 pub returns-then-is_transferable : goal.returns-then-is_transferable

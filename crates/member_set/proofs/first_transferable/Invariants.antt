@@ -1,12 +1,8 @@
-use mathlib.Core.Path.{◌≡◌, refl, sym, ◌∙◌}
+use mathlib.Core.Path.{◌≡◌}
 use Prim.Native.Nat.{◌-◌}
-use native.Mathlib.Omega.{arith}
 use lib.ListN.{length, drop, take}
 use Rattle.lists.specs.Lists.{first_from}
 use Rattle.item.specs.Item.{is_transferable}
-use Rattle.items.specs.Items.{listed}
-use Rattle.items.proofs.Laws.{no_item, places-16}
-use Rattle.member_set.proofs.Laws.{found_here, found_next, found_none}
 use Rattle.member_set.proofs.first_transferable.Given as goal
 
 abbrev pub invariant-loop-i : goal.invariant-loop-i

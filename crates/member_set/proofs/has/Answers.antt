@@ -3,7 +3,6 @@ use Rattle.lists.specs.Lists.{is_at}
 use Rattle.lists.proofs.Facts.{first_any}
 use Rattle.item.specs.Item.{same_item}
 use Rattle.items.specs.Items.{listed}
-use borrow.Author.Rules.{rules}
 use Rattle.member_set.proofs.has.Goals as goal
 
 pub returns-in-At : goal.returns-in-At

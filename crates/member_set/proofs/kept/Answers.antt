@@ -1,15 +1,15 @@
-use mathlib.Core.Path.{◌≡◌, ap, ◌∙◌}
+use mathlib.Core.Path.{ap, ◌∙◌}
 use mathlib.Core.List.{List}
-use Prim.Native.Nat.{◌≤◌, ◌-◌}
+use Prim.Native.Nat.{◌-◌}
 use native.Mathlib.Omega.{arith}
-use lib.ListN.{length, take, get_or}
+use lib.ListN.{take, get_or}
 use Rattle.lists.specs.Lists.{filter}
 use Rattle.lists.proofs.Walks.{head_at, used-end}
 use Rattle.item.specs.declared.Item.{Item}
 use Rattle.items.specs.Items.{listed, packed}
-use Rattle.items.proofs.Laws.{no_item, places-16}
+use Rattle.items.proofs.Laws.{no_item}
 use Rattle.member_set.specs.Members.{absent}
-use Rattle.member_set.proofs.Laws.{Kept, kept-start, kept-room, kept_next, kept-end}
+use Rattle.member_set.proofs.Laws.{kept_next, kept-end}
 use borrow.Author.Rules.{rules}
 use Rattle.member_set.proofs.kept.Goals as goal
 

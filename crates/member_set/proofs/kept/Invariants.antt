@@ -1,15 +1,8 @@
-use mathlib.Core.Path.{◌≡◌, ap, ◌∙◌}
-use mathlib.Core.List.{List}
+use mathlib.Core.Path.{◌≡◌}
 use Prim.Native.Nat.{◌≤◌, ◌-◌}
-use native.Mathlib.Omega.{arith}
-use lib.ListN.{length, take, get_or}
-use Rattle.lists.specs.Lists.{filter}
-use Rattle.lists.proofs.Walks.{head_at, used-end}
-use Rattle.item.specs.declared.Item.{Item}
-use Rattle.items.specs.Items.{listed, packed}
-use Rattle.items.proofs.Laws.{no_item, places-16}
-use Rattle.member_set.specs.Members.{absent}
-use Rattle.member_set.proofs.Laws.{Kept, kept-start, kept-room, kept_next, kept-end}
+use lib.ListN.{length, take}
+use Rattle.items.specs.Items.{listed}
+use Rattle.member_set.proofs.Laws.{Kept}
 use Rattle.member_set.proofs.kept.Given as goal
 
 abbrev pub invariant-loop-i : goal.invariant-loop-i

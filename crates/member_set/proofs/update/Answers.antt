@@ -1,8 +1,6 @@
-use Rattle.lists.specs.Lists.{filter}
 use Rattle.items.specs.Items.{listed}
-use Rattle.member_set.specs.Members.{absent, updated}
-use Rattle.member_set.proofs.Laws.{packed-again, update_is, update_many, update-fits}
-use borrow.Author.Rules.{rules}
+use Rattle.member_set.specs.Members.{updated}
+use Rattle.member_set.proofs.Laws.{update_is, update_many, update-fits}
 use Rattle.member_set.proofs.update.Goals as goal
 
 pub returns-then-n-gt16 : goal.returns-then-n-gt16

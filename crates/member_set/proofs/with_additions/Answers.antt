@@ -1,8 +1,8 @@
-use mathlib.Core.Path.{◌≡◌, sym, ◌∙◌, ap}
+use mathlib.Core.Path.{sym, ◌∙◌, ap}
 use mathlib.Core.List.{List}
 use Prim.Native.Nat.{◌-◌}
 use native.Mathlib.Omega.{arith}
-use lib.ListN.{length, take, get_or}
+use lib.ListN.{take, get_or}
 use lib.Seq.{take-take}
 use Rattle.lists.specs.Lists.{either}
 use Rattle.lists.proofs.Walks.{head_at, used-end}
@@ -11,8 +11,7 @@ use Rattle.items.specs.Items.{listed, member}
 use Rattle.items.proofs.Laws.{no_item, places-16}
 use Rattle.member_set.specs.Members.{joined}
 use Rattle.member_set.specs.Parts.{grown}
-use Rattle.member_set.proofs.Laws.{last_at, Joined, joined-start, joined-room, joined-next, joined_end}
-use borrow.Author.Rules.{rules}
+use Rattle.member_set.proofs.Laws.{last_at, joined-start, joined-next, joined_end}
 use Rattle.member_set.proofs.with_additions.Goals as goal
 
 pub loop-i-init : goal.loop-i-init

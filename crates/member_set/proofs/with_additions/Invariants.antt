@@ -1,17 +1,8 @@
-use mathlib.Core.Path.{◌≡◌, sym, ◌∙◌, ap}
-use mathlib.Core.List.{List}
+use mathlib.Core.Path.{◌≡◌}
 use Prim.Native.Nat.{◌-◌}
-use native.Mathlib.Omega.{arith}
-use lib.ListN.{length, take, get_or}
-use lib.Seq.{take-take}
-use Rattle.lists.specs.Lists.{either}
-use Rattle.lists.proofs.Walks.{head_at, used-end}
-use Rattle.item.specs.declared.Item.{Item}
-use Rattle.items.specs.Items.{listed, member}
-use Rattle.items.proofs.Laws.{no_item, places-16}
-use Rattle.member_set.specs.Members.{joined}
-use Rattle.member_set.specs.Parts.{grown}
-use Rattle.member_set.proofs.Laws.{last_at, Joined, joined-start, joined-room, joined-next, joined_end}
+use lib.ListN.{length, take}
+use Rattle.items.specs.Items.{listed}
+use Rattle.member_set.proofs.Laws.{Joined}
 use Rattle.member_set.proofs.with_additions.Given as goal
 
 abbrev pub invariant-loop-i : goal.invariant-loop-i

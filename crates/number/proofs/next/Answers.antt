@@ -1,7 +1,5 @@
 use native.Mathlib.Omega.{arith}
 use Rattle.number.proofs.Laws.{next-within, next_carry, next-none}
-use Rattle.number.proofs.next.Reads as reads
-use Rattle.number.proofs.next.Lts as lts
 use borrow.Author.Rules.{rules}
 use Rattle.number.proofs.next.Goals as goal
 

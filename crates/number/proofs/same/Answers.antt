@@ -1,8 +1,5 @@
 use borrow.Author.Tests.{eq-eqb, ne_eqb}
 use Rattle.number.specs.Number.{same_number}
-use Rattle.number.proofs.same.Reads as reads
-use Rattle.number.proofs.same.Lts as lts
-use borrow.Author.Rules.{rules}
 use Rattle.number.proofs.same.Goals as goal
 
 -- src/lib.rt:22:1

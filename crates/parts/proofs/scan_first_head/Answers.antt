@@ -1,7 +1,6 @@
 use mathlib.Core.Path.{sym, ◌∙◌, ap}
 use Rattle.field.specs.Field.{place_is, sn_is}
 use Rattle.parts.specs.Parts.{first_head_places}
-use borrow.Author.Rules.{rules}
 use Rattle.parts.proofs.scan_first_head.Goals as goal
 
 pub returns-in_default : goal.returns-in_default

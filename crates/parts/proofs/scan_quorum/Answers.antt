@@ -3,7 +3,6 @@ use Rattle.format.specs.Parse.{bad}
 use Rattle.field.specs.Field.{span_is}
 use Rattle.threshold_field.specs.ThresholdField.{marked_is}
 use Rattle.parts.specs.Parts.{refusal_of_marked, refusal_of_span, quorum_places}
-use borrow.Author.Rules.{rules}
 use Rattle.parts.proofs.scan_quorum.Goals as goal
 
 pub returns-in_default : goal.returns-in_default

@@ -3,7 +3,6 @@ use Rattle.format.specs.Parse.{bad}
 use Rattle.cursor.specs.Cursor.{is32}
 use Rattle.field.specs.Field.{span_is}
 use Rattle.parts.specs.Parts.{refusal_of_signers, refusal_of_span, signers_is, rotation_body_places}
-use borrow.Author.Rules.{rules}
 use Rattle.parts.proofs.scan_rotation_body.Goals as goal
 
 pub returns-in_default : goal.returns-in_default

@@ -1,7 +1,6 @@
 use mathlib.Core.Path.{sym, ◌∙◌, ap}
 use Rattle.format.specs.Parse.{bad}
 use Rattle.parts.specs.Parts.{quorum_is, refusal_of_quorum, signers_places}
-use borrow.Author.Rules.{rules}
 use Rattle.parts.proofs.scan_signers.Goals as goal
 
 pub returns-in_default : goal.returns-in_default

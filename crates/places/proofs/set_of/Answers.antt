@@ -1,8 +1,5 @@
-use mathlib.Core.Path.{◌≡◌, ◌∙◌}
-use Prim.Native.Nat.{◌≤◌, ◌-◌}
-use lib.ListN.{length, take}
-use Rattle.places.specs.Places.{set_of, among}
-use Rattle.places.proofs.Laws.{among_none, among_next, among-all}
+use mathlib.Core.Path.{◌∙◌}
+use Rattle.places.proofs.Laws.{among_none, among_next}
 use borrow.Author.Rules.{rules}
 use Rattle.places.proofs.set_of.Goals as goal
 

@@ -4,7 +4,6 @@ use Rattle.parts.specs.Parts.{body_is, head_is}
 use Rattle.record.specs.Marks.{event_of, refusal_of_body, refusal_of_tail, tail_is, inception_places}
 use Rattle.event.specs.declared.Ilk.TheVariants.{Inception}
 use Rattle.record.proofs.Laws.{inception-value, with_value}
-use borrow.Author.Rules.{rules}
 use Rattle.record.proofs.scan_inception.Goals as goal
 
 pub returns-in_default : goal.returns-in_default

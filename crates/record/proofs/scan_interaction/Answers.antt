@@ -4,7 +4,6 @@ use Rattle.parts.specs.Parts.{head_is}
 use Rattle.record.specs.Marks.{event_of, refusal_of_tail, tail_is, interaction_places}
 use Rattle.event.specs.declared.Ilk.TheVariants.{Interaction}
 use Rattle.record.proofs.Laws.{interaction-value, with_value}
-use borrow.Author.Rules.{rules}
 use Rattle.record.proofs.scan_interaction.Goals as goal
 
 pub returns-in_default : goal.returns-in_default

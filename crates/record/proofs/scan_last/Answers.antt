@@ -3,7 +3,6 @@ use borrow.Author.Tests.{eq-eqb, ne_eqb}
 use Rattle.format.specs.Parse.{ended}
 use Rattle.field.specs.Field.{flag_is, place_is, sn_is}
 use Rattle.record.specs.Marks.{last_places}
-use borrow.Author.Rules.{rules}
 use Rattle.record.proofs.scan_last.Goals as goal
 
 pub returns-in_default : goal.returns-in_default

@@ -6,7 +6,6 @@ use Rattle.cursor.specs.Cursor.{is8}
 use Rattle.parts.specs.Parts.{body_is, head_is}
 use Rattle.record.specs.Marks.{state_of, last_is, refusal_of_body, snapshot_places}
 use Rattle.record.proofs.Laws.{snapshot_value, with_value}
-use borrow.Author.Rules.{rules}
 use Rattle.record.proofs.scan_snapshot.Goals as goal
 
 pub returns-in_default : goal.returns-in_default

@@ -4,7 +4,6 @@ use Rattle.format.specs.Parse.{bad, ended}
 use Rattle.cursor.specs.Cursor.{is32}
 use Rattle.wire.specs.Wire as sigers
 use Rattle.record.specs.Marks.{refusal_of_sigers, tail_places}
-use borrow.Author.Rules.{rules}
 use Rattle.record.proofs.scan_tail.Goals as goal
 
 pub returns-in_default : goal.returns-in_default

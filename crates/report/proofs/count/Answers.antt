@@ -1,6 +1,5 @@
 use Rattle.report.proofs.Laws.{count-accepted, count-refused}
 use Prim.Native.Nat.{◌-◌}
-use borrow.Author.Rules.{rules}
 use Rattle.report.proofs.count.Goals as goal
 
 pub returns-then-x-eq0 : goal.returns-then-x-eq0

@@ -1,6 +1,5 @@
 use Rattle.report.proofs.Laws.{more, last}
 use Prim.Native.Nat.{◌-◌}
-use borrow.Author.Rules.{rules}
 use Rattle.report.proofs.one_more.Goals as goal
 
 pub returns-then-n-lt18446744073709551615 : goal.returns-then-n-lt18446744073709551615

@@ -1,6 +1,5 @@
 use Rattle.report.proofs.Laws.{noted}
 use Prim.Native.Nat.{◌-◌}
-use borrow.Author.Rules.{rules}
 use Rattle.report.proofs.tell.Goals as goal
 
 pub returns : goal.returns

@@ -1,5 +1,4 @@
 use Rattle.report.proofs.Laws.{ended_at, ended-nothing, ended_bad}
-use borrow.Author.Rules.{rules}
 use Rattle.report.proofs.tell_end.Goals as goal
 
 pub returns-in-Of : goal.returns-in-Of

@@ -3,7 +3,6 @@ use Rattle.item.specs.Item.{same_item}
 use Rattle.answer.specs.Answer.{refused}
 use Rattle.answer.proofs.Laws.{here, past, last, clean_unless}
 use Rattle.rules.specs.Rules.{chains_onto}
-use borrow.Author.Rules.{rules}
 use Rattle.rules.proofs.chain.Goals as goal
 
 pub returns-then-x-ne0 : goal.returns-then-x-ne0

@@ -4,7 +4,6 @@ use Rattle.answer.specs.declared.Answer.{Answer}
 use Rattle.answer.specs.Answer.{refused}
 use Rattle.answer.proofs.Laws.{here, past, last}
 use Rattle.rules.proofs.Laws.{clean_sn}
-use borrow.Author.Rules.{rules}
 use Rattle.rules.proofs.genesis.Goals as goal
 
 abbrev named : ℕ → Answer

@@ -4,7 +4,6 @@ use Rattle.member_set.specs.Members.{change_faults, updated}
 use Rattle.evidence.specs.Evidence.{receipted_on}
 use Rattle.answer.proofs.Laws.{here}
 use Rattle.rules.proofs.Laws.{change_stops, no_room, no_toad, no-receipts, rewitnesses, clean_receipts}
-use borrow.Author.Rules.{rules}
 use Rattle.rules.proofs.rewitnessed.Goals as goal
 
 pub returns-then-x-ne0 : goal.returns-then-x-ne0

@@ -1,10 +1,6 @@
-use mathlib.Core.Path.{◌≡◌, sym, ◌∙◌}
+use mathlib.Core.Path.{sym, ◌∙◌}
 use Prim.Native.Nat.{◌-◌}
-use native.Mathlib.Omega.{arith}
-use lib.ListN.{length, drop}
-use Rattle.satisfied.specs.Satisfied.{rising_after, rising}
-use Rattle.satisfied.proofs.Laws.{rising_none, rising-start, rising_stop, rising-next, rising-end}
-use borrow.Author.Rules.{rules}
+use Rattle.satisfied.proofs.Laws.{rising_stop, rising-next, rising-end}
 use Rattle.satisfied.proofs.is_rising.Goals as goal
 
 pub returns-then-x-last : goal.returns-then-x-last

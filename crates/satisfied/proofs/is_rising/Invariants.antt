@@ -1,9 +1,7 @@
-use mathlib.Core.Path.{◌≡◌, sym, ◌∙◌}
+use mathlib.Core.Path.{◌≡◌}
 use Prim.Native.Nat.{◌-◌}
-use native.Mathlib.Omega.{arith}
 use lib.ListN.{length, drop}
 use Rattle.satisfied.specs.Satisfied.{rising_after, rising}
-use Rattle.satisfied.proofs.Laws.{rising_none, rising-start, rising_stop, rising-next, rising-end}
 use Rattle.satisfied.proofs.is_rising.Given as goal
 
 abbrev pub invariant-loop-i : goal.invariant-loop-i

@@ -1,11 +1,8 @@
-use mathlib.Core.Path.{◌≡◌, refl, sym, ◌∙◌}
+use mathlib.Core.Path.{sym, ◌∙◌}
 use Prim.Native.Nat.{◌-◌}
-use lib.ListN.{length, drop}
 use lib.Dec.{eqb}
 use borrow.Author.Tests.{eq-eqb, ne_eqb}
 use Rattle.lists.proofs.Walks.{head_of, any_here, any_next, any-end}
-use Rattle.places.specs.Places.{among}
-use borrow.Author.Rules.{rules}
 use Rattle.satisfied.proofs.named_from.Goals as goal
 
 pub returns-then-ps-i : goal.returns-then-ps-i

@@ -1,9 +1,6 @@
-use mathlib.Core.Path.{◌≡◌, sym, ◌∙◌}
-use Prim.Native.Nat.{◌+◌, ◌-◌}
-use lib.ListN.{length, drop}
-use lib.Dec.{leb}
-use Rattle.satisfied.proofs.Laws.{named, count-start, count-again, count_new, count-enough, count-end}
-use borrow.Author.Rules.{rules}
+use mathlib.Core.Path.{sym, ◌∙◌}
+use Prim.Native.Nat.{◌-◌}
+use Rattle.satisfied.proofs.Laws.{count-again, count_new, count-end}
 use Rattle.satisfied.proofs.names_at_least.Goals as goal
 
 pub returns-then-ps-i : goal.returns-then-ps-i

@@ -1,8 +1,8 @@
-use mathlib.Core.Path.{◌≡◌, sym, ◌∙◌}
+use mathlib.Core.Path.{◌≡◌}
 use Prim.Native.Nat.{◌+◌, ◌-◌}
 use lib.ListN.{length, drop}
 use lib.Dec.{leb}
-use Rattle.satisfied.proofs.Laws.{named, count-start, count-again, count_new, count-enough, count-end}
+use Rattle.satisfied.proofs.Laws.{named}
 use Rattle.satisfied.proofs.names_at_least.Given as goal
 
 abbrev pub invariant-loop-count : goal.invariant-loop-count

@@ -2,7 +2,6 @@ use mathlib.Core.Path.{sym, ◌∙◌}
 use Rattle.threshold.proofs.Laws.{weights_16}
 use Rattle.satisfied.specs.Satisfied.{sorted_unique}
 use Rattle.satisfied.proofs.Laws.{by_shape, by_number, of_set, by_places}
-use borrow.Author.Rules.{rules}
 use Rattle.satisfied.proofs.satisfied_by.Goals as goal
 
 pub returns-then-shape-ne0 : goal.returns-then-shape-ne0

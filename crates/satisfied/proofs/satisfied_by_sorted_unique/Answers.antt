@@ -1,9 +1,7 @@
 use mathlib.Core.Path.{sym, ◌∙◌}
 use lib.ListN.{length}
-use borrow.Author.Tests.{not-true, not-false}
 use Rattle.threshold.proofs.Laws.{weights_16}
 use Rattle.satisfied.proofs.Laws.{by_shape, by_fall, of_set, by_list}
-use borrow.Author.Rules.{rules}
 use Rattle.satisfied.proofs.satisfied_by_sorted_unique.Goals as goal
 
 pub returns-then-shape-ne0 : goal.returns-then-shape-ne0

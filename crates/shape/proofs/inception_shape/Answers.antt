@@ -1,6 +1,5 @@
 use mathlib.Core.Path.{sym, ◌∙◌}
 use Rattle.answer.proofs.Laws.{fault_here, fault_past, fault_last}
-use borrow.Author.Rules.{rules}
 use Rattle.shape.proofs.inception_shape.Goals as goal
 
 pub returns-then-n-ne0 : goal.returns-then-n-ne0

@@ -1,7 +1,6 @@
 use mathlib.Core.Path.{sym, ◌∙◌}
 use Rattle.shape.specs.Event.{later_head}
 use Rattle.answer.proofs.Laws.{fault_here, fault_past, fault_last}
-use borrow.Author.Rules.{rules}
 use Rattle.shape.proofs.later_head.Goals as goal
 
 pub returns-then-n-ne0 : goal.returns-then-n-ne0

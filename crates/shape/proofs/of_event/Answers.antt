@@ -1,6 +1,5 @@
 use mathlib.Core.Path.{◌∙◌}
 use Rattle.shape.proofs.Laws.{shape_as_lem}
-use borrow.Author.Rules.{rules}
 use Rattle.shape.proofs.of_event.Goals as goal
 
 pub returns-in-Inception : goal.returns-in-Inception

@@ -1,7 +1,6 @@
 use mathlib.Core.Path.{sym, ◌∙◌}
 use Rattle.shape.specs.State.{state_shape}
 use Rattle.answer.proofs.Laws.{fault_here, fault_past, fault_last}
-use borrow.Author.Rules.{rules}
 use Rattle.shape.proofs.of_state.Goals as goal
 
 pub returns-then-n-ne0 : goal.returns-then-n-ne0

@@ -1,7 +1,6 @@
 use mathlib.Core.Path.{sym, ◌∙◌}
 use Rattle.shape.specs.State.{state_tail}
 use Rattle.answer.proofs.Laws.{fault_here, fault_past, fault_last}
-use borrow.Author.Rules.{rules}
 use Rattle.shape.proofs.state_tail.Goals as goal
 
 pub returns-then-n-ne0 : goal.returns-then-n-ne0

@@ -1,7 +1,6 @@
 use mathlib.Core.Bool.{not}
-use mathlib.Core.Path.{refl, ap}
+use mathlib.Core.Path.{ap}
 use Rattle.snapshot.proofs.Assembled.{unfit, fit, assembled_unfit, assembled-short, assembled-room, assembled_whole}
-use borrow.Author.Rules.{rules}
 use Rattle.snapshot.proofs.assemble.Goals as goal
 
 pub returns-then-not-fit : goal.returns-then-not-fit

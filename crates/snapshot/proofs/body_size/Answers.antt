@@ -4,7 +4,6 @@ use Rattle.config.proofs.Laws as config
 use Rattle.snapshot.proofs.Shapes.{good_state}
 use Rattle.snapshot.proofs.Real.{real_state}
 use Rattle.snapshot.proofs.Size.{body_size}
-use borrow.Author.Rules.{rules}
 use Rattle.snapshot.proofs.body_size.Goals as goal
 
 pub group_size-requires : goal.group_size-requires

@@ -1,6 +1,5 @@
 use mathlib.Core.Path.{sym}
 use Rattle.snapshot.proofs.Assembled.{many_witnesses, many_traits, long_point, long_last, by_signers}
-use borrow.Author.Rules.{rules}
 use Rattle.snapshot.proofs.fits.Goals as goal
 
 pub returns-then-witnesses-gt16 : goal.returns-then-witnesses-gt16

@@ -1,6 +1,5 @@
 use native.Mathlib.Omega.{arith}
 use Rattle.snapshot.proofs.Size.{group-size}
-use borrow.Author.Rules.{rules}
 use Rattle.snapshot.proofs.group_size.Goals as goal
 
 pub returns : goal.returns

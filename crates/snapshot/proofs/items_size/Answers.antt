@@ -2,7 +2,6 @@ use mathlib.Core.Path.{sym}
 use native.Mathlib.Omega.{arith}
 use Rattle.snapshot.proofs.Real.{real_items}
 use Rattle.snapshot.proofs.Size.{items_size}
-use borrow.Author.Rules.{rules}
 use Rattle.snapshot.proofs.items_size.Goals as goal
 
 pub returns : goal.returns

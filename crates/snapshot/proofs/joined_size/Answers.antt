@@ -1,6 +1,5 @@
 use native.Mathlib.Omega.{arith}
 use Rattle.snapshot.proofs.Assembled.{all_fit, real_loose, joined-size}
-use borrow.Author.Rules.{rules}
 use Rattle.snapshot.proofs.joined_size.Goals as goal
 
 pub items_size-requires : goal.items_size-requires

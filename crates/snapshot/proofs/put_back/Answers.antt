@@ -1,8 +1,7 @@
-use mathlib.Core.List.{[], ◌∷◌}
+use mathlib.Core.List.{◌∷◌, []}
 use Rattle.snapshot.specs.Bytes.{items_bytes, config_bytes, flag_byte}
 use Rattle.snapshot.specs.Assembled.{back_bytes}
 use Rattle.writer.proofs.Laws.{begin, fits, more, put_more, put_last}
-use borrow.Author.Rules.{rules}
 use Rattle.snapshot.proofs.put_back.Goals as goal
 
 pub put_items-p-requires : goal.put_items-p-requires

@@ -2,7 +2,6 @@ use Rattle.snapshot.specs.Saved.{head_bytes, group_bytes, body_bytes}
 use Rattle.items.proofs.Laws as items
 use Rattle.snapshot.proofs.Shapes.{good_state}
 use Rattle.writer.proofs.Laws.{begin, fits, more, last, put_more}
-use borrow.Author.Rules.{rules}
 use Rattle.snapshot.proofs.put_body.Goals as goal
 
 pub put_head-p-requires : goal.put_head-p-requires

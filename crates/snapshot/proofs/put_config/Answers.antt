@@ -1,8 +1,6 @@
 use native.Mathlib.Omega.{arith}
 use lib.ListN.{length-take}
-use Rattle.config.proofs.Laws.{places-8}
 use Rattle.snapshot.specs.Bytes.{config_bytes}
-use borrow.Author.Rules.{rules}
 use Rattle.snapshot.proofs.put_config.Goals as goal
 
 pub put_counted-requires : goal.put_counted-requires

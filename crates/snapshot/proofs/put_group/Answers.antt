@@ -1,7 +1,6 @@
 use Rattle.snapshot.specs.Bytes.{items_bytes}
 use Rattle.snapshot.specs.Saved.{group_bytes}
 use Rattle.writer.proofs.Laws.{begin, fits, more, last}
-use borrow.Author.Rules.{rules}
 use Rattle.snapshot.proofs.put_group.Goals as goal
 
 pub put_items-p-requires : goal.put_items-p-requires

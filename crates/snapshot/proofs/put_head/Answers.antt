@@ -1,7 +1,6 @@
 use Rattle.snapshot.specs.Bytes.{item_bytes}
 use Rattle.snapshot.specs.Saved.{head_bytes}
 use Rattle.writer.proofs.Laws.{begin, fits, more, last}
-use borrow.Author.Rules.{rules}
 use Rattle.snapshot.proofs.put_head.Goals as goal
 
 pub put_item-p-requires : goal.put_item-p-requires

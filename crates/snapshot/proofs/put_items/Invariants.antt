@@ -1,15 +1,8 @@
-use mathlib.Core.Path.{◌≡◌, refl}
-use mathlib.Core.List.{List, [], ◌∷◌}
-use Prim.Native.Nat.{ℕ, ◌-◌, ◌≤◌}
-use native.Mathlib.Omega.{arith}
-use lib.ListN.{length, drop, take, length-take}
-use Rattle.items.specs.declared.Items.{Items}
-use Rattle.items.specs.Items.{listed}
-use Rattle.items.proofs.Laws.{no_item, places-16}
-use Rattle.writer.specs.Writing.{Room}
-use Rattle.snapshot.specs.Bytes.{each, item_bytes, items_bytes}
-use Rattle.writer.proofs.Laws.{Put, Left, begin, last, put_more}
-use Rattle.snapshot.proofs.Laws.{each_fits, each_more, each_done}
+use mathlib.Core.Path.{◌≡◌}
+use Prim.Native.Nat.{◌-◌, ◌≤◌}
+use lib.ListN.{length, drop, take}
+use Rattle.snapshot.specs.Bytes.{each, item_bytes}
+use Rattle.writer.proofs.Laws.{Left}
 use Rattle.snapshot.proofs.put_items.Given as goal
 
 abbrev pub invariant-loop-i : goal.invariant-loop-i

@@ -1,10 +1,9 @@
 use mathlib.Core.Path.{sym}
-use mathlib.Core.List.{[], ◌∷◌, ◌++◌}
+use mathlib.Core.List.{◌∷◌, ◌++◌, []}
 use Rattle.writer.specs.Writing.{be}
 use Rattle.snapshot.specs.Assembled.{front_bytes, back_bytes}
 use Rattle.writer.proofs.Laws.{same_bytes, same-room, begin, fits, more, last, put_more}
 use Rattle.snapshot.proofs.Assembled.{framed_as, all_fit}
-use borrow.Author.Rules.{rules}
 use Rattle.snapshot.proofs.put_joined.Goals as goal
 
 pub put_front-r-requires : goal.put_front-r-requires

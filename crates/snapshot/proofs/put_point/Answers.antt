@@ -1,7 +1,6 @@
 use Rattle.snapshot.specs.Bytes.{words_bytes}
 use Rattle.snapshot.specs.Saved.{point_bytes}
 use Rattle.writer.proofs.Laws.{begin, fits, more, last}
-use borrow.Author.Rules.{rules}
 use Rattle.snapshot.proofs.put_point.Goals as goal
 
 pub put_words-p-requires : goal.put_words-p-requires

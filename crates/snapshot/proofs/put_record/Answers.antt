@@ -1,9 +1,8 @@
-use mathlib.Core.List.{[], ◌∷◌, ◌++◌}
+use mathlib.Core.List.{◌∷◌, ◌++◌, []}
 use Rattle.writer.specs.Writing.{be}
 use Rattle.snapshot.specs.Saved.{body_bytes}
 use Rattle.writer.proofs.Laws.{begin, last, put_more}
 use Rattle.snapshot.proofs.Size.{encoded_as}
-use borrow.Author.Rules.{rules}
 use Rattle.snapshot.proofs.put_record.Goals as goal
 
 pub put_body-requires : goal.put_body-requires

@@ -1,13 +1,10 @@
-use native.Mathlib.Omega.{arith}
-use mathlib.Core.List.{[], ◌∷◌}
+use mathlib.Core.List.{◌∷◌, []}
 use Rattle.snapshot.specs.Bytes.{items_bytes, config_bytes, flag_byte}
 use Rattle.snapshot.specs.Saved.{tail_bytes}
 use Rattle.items.proofs.Laws as items
 use Rattle.config.proofs.Laws as config
 use Rattle.snapshot.proofs.Shapes.{good_state}
-use Rattle.snapshot.proofs.Real.{real_state}
 use Rattle.writer.proofs.Laws.{begin, fits, more, last, put_more}
-use borrow.Author.Rules.{rules}
 use Rattle.snapshot.proofs.put_tail.Goals as goal
 
 pub put_items-p-requires : goal.put_items-p-requires

@@ -1,5 +1,5 @@
 use mathlib.Core.Path.{◌≡◌}
-use mathlib.Core.List.{[], ◌∷◌, ◌++◌}
+use mathlib.Core.List.{◌∷◌, ◌++◌, []}
 use native.Mathlib.Omega.{arith}
 use lib.ListN.{take, length-take}
 use Rattle.threshold.specs.Threshold.{sizes_of, weights_in}
@@ -9,7 +9,6 @@ use Rattle.writer.proofs.Laws.{begin, fits, more, last, put_more, put_last}
 use Rattle.snapshot.proofs.Laws.{simple-bytes, weighted-bytes}
 use Rattle.snapshot.proofs.Shapes.{is_weighted}
 use Rattle.snapshot.proofs.Real.{real_threshold}
-use borrow.Author.Rules.{rules}
 use Rattle.snapshot.proofs.put_threshold.Goals as goal
 
 pub returns-then-t-eq0 : goal.returns-then-t-eq0

@@ -1,9 +1,6 @@
-use mathlib.Core.Path.{◌≡◌, refl}
-use Prim.Native.Nat.{◌-◌, ◌≤◌}
+use Prim.Native.Nat.{◌-◌}
 use native.Mathlib.Omega.{arith}
-use lib.ListN.{length, drop, take}
-use Rattle.snapshot.specs.Bytes.{each, weight_bytes}
-use Rattle.writer.proofs.Laws.{Left, begin}
+use Rattle.snapshot.specs.Bytes.{weight_bytes}
 use Rattle.snapshot.proofs.Laws.{each_fits, each_more, each_done}
 use Rattle.threshold.proofs.Laws.{no_weight}
 use borrow.Author.Rules.{rules}

@@ -1,11 +1,8 @@
-use mathlib.Core.Path.{◌≡◌, refl}
+use mathlib.Core.Path.{◌≡◌}
 use Prim.Native.Nat.{◌-◌, ◌≤◌}
-use native.Mathlib.Omega.{arith}
 use lib.ListN.{length, drop, take}
 use Rattle.snapshot.specs.Bytes.{each, weight_bytes}
-use Rattle.writer.proofs.Laws.{Left, begin}
-use Rattle.snapshot.proofs.Laws.{each_fits, each_more, each_done}
-use Rattle.threshold.proofs.Laws.{no_weight}
+use Rattle.writer.proofs.Laws.{Left}
 use Rattle.snapshot.proofs.put_weights.Given as goal
 
 abbrev pub invariant-loop-i : goal.invariant-loop-i

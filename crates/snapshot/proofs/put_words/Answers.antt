@@ -1,6 +1,5 @@
 use Rattle.snapshot.specs.Bytes.{words_bytes}
 use Rattle.writer.proofs.Laws.{begin, put_more, put_last}
-use borrow.Author.Rules.{rules}
 use Rattle.snapshot.proofs.put_words.Goals as goal
 
 pub returns : goal.returns

@@ -1,10 +1,7 @@
-use mathlib.Core.Path.{refl}
 use mathlib.Core.Bool.{true, false}
 use native.Mathlib.Omega.{arith}
-use borrow.Author.Tests.{not-true, not-false}
 use Rattle.state.proofs.Laws.{is_held_lem}
 use Rattle.snapshot.proofs.Size.{record-size, saved_fault, saved-empty, saved-short, saved_whole, held-shape}
-use borrow.Author.Rules.{rules}
 use Rattle.snapshot.proofs.save.Goals as goal
 
 pub returns-then-fault-ne0 : goal.returns-then-fault-ne0

@@ -1,8 +1,7 @@
 use mathlib.Core.Path.{sym}
-use mathlib.Core.List.{[], ◌∷◌, ◌++◌}
+use mathlib.Core.List.{◌∷◌, ◌++◌, []}
 use Rattle.writer.proofs.Laws.{begin, put_more, put_last}
 use Rattle.snapshot.proofs.Assembled.{pointed_other, pointed-short, pointed_whole, point_room}
-use borrow.Author.Rules.{rules}
 use Rattle.snapshot.proofs.step.Goals as goal
 
 pub returns-then-point-ne49 : goal.returns-then-point-ne49

@@ -3,7 +3,6 @@ use native.Mathlib.Omega.{arith}
 use Rattle.snapshot.proofs.Shapes.{is_weighted}
 use Rattle.snapshot.proofs.Real.{real_threshold}
 use Rattle.snapshot.proofs.Size.{simple-size, weighted-size}
-use borrow.Author.Rules.{rules}
 use Rattle.snapshot.proofs.threshold_size.Goals as goal
 
 pub returns-then-t-eq0 : goal.returns-then-t-eq0

@@ -1,6 +1,5 @@
 use mathlib.Core.Path.{◌∙◌}
 use Rattle.threshold.proofs.Laws.{shape_bad, shape_good}
-use borrow.Author.Rules.{rules}
 use Rattle.threshold.proofs.check_well_formed.Goals as goal
 
 pub returns-then-fault-ne0 : goal.returns-then-fault-ne0

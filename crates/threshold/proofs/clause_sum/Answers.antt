@@ -1,4 +1,4 @@
-use mathlib.Core.Path.{◌≡◌, refl, ◌∙◌, ap}
+use mathlib.Core.Path.{◌≡◌, ◌∙◌, ap}
 use mathlib.Core.Bool.{Bool, false}
 use Prim.Native.Nat.{◌+◌, ◌<◌, ◌-◌}
 use native.Mathlib.Omega.{arith}
@@ -8,10 +8,9 @@ use Rattle.lists.specs.Lists.{pick}
 use Rattle.lists.proofs.Walks.{head_of}
 use Rattle.places.specs.Places.{bit_at}
 use Rattle.weight.specs.declared.Sum.{Sum}
-use Rattle.weight.specs.Weight.{weigh, no_sum}
+use Rattle.weight.specs.Weight.{weigh}
 use Rattle.threshold.specs.Threshold.{sum_from}
 use Rattle.threshold.proofs.Laws.{no_weight, clause_next, clause_none, clause_end}
-use borrow.Author.Rules.{rules}
 use Rattle.threshold.proofs.clause_sum.Goals as goal
 
 pub returns-then-left-eq0 : goal.returns-then-left-eq0

@@ -1,16 +1,9 @@
-use mathlib.Core.Path.{◌≡◌, refl, ◌∙◌, ap}
-use mathlib.Core.Bool.{Bool, false}
-use Prim.Native.Nat.{◌+◌, ◌<◌, ◌-◌}
-use native.Mathlib.Omega.{arith}
-use lib.ListN.{length, drop, take, get_or}
-use borrow.Author.Tests.{lt-ltb}
-use Rattle.lists.specs.Lists.{pick}
-use Rattle.lists.proofs.Walks.{head_of}
+use mathlib.Core.Path.{◌≡◌}
+use Prim.Native.Nat.{◌-◌}
+use lib.ListN.{length, drop, take}
 use Rattle.places.specs.Places.{bit_at}
-use Rattle.weight.specs.declared.Sum.{Sum}
-use Rattle.weight.specs.Weight.{weigh, no_sum}
+use Rattle.weight.specs.Weight.{no_sum}
 use Rattle.threshold.specs.Threshold.{sum_from}
-use Rattle.threshold.proofs.Laws.{no_weight, clause_next, clause_none, clause_end}
 use Rattle.threshold.proofs.clause_sum.Given as goal
 
 abbrev pub invariant-loop-k : goal.invariant-loop-k

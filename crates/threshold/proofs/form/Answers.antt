@@ -1,7 +1,6 @@
 use mathlib.Core.Path.{sym, ◌∙◌}
 use borrow.Author.Tests.{eq-eqb, ne_eqb}
 use Rattle.threshold.specs.Threshold.{well_formed}
-use borrow.Author.Rules.{rules}
 use Rattle.threshold.proofs.form.Goals as goal
 
 pub returns-then-t-eq0 : goal.returns-then-t-eq0

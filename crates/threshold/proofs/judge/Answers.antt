@@ -1,6 +1,5 @@
 use borrow.Author.Tests.{eq-eqb, ne_eqb, le-leb, lt-leb}
 use Rattle.threshold.specs.Threshold.{judged}
-use borrow.Author.Rules.{rules}
 use Rattle.threshold.proofs.judge.Goals as goal
 
 pub returns-then-t-count : goal.returns-then-t-count

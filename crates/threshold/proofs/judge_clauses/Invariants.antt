@@ -1,16 +1,8 @@
-use mathlib.Core.Path.{◌≡◌, refl, sym, ◌∙◌, ap}
-use mathlib.Core.List.{◌∷◌}
+use mathlib.Core.Path.{◌≡◌}
 use Prim.Native.Nat.{◌+◌, ◌≤◌, ◌-◌}
-use native.Mathlib.Omega.{arith}
-use lib.ListN.{length, drop, take, get_or}
-use borrow.Author.Tests.{not-true, not-false}
-use mir.Val.{Fits}
-use mir.Syntax.{w8}
-use Rattle.lists.proofs.Walks.{head_at, used-end, array_end}
+use lib.ListN.{length, drop, take}
 use Rattle.places.specs.Places.{bit_at}
-use Rattle.weight.specs.Weight.{reaches_one}
 use Rattle.threshold.specs.Threshold.{runs, clauses_met, first_short}
-use Rattle.threshold.proofs.Laws.{cut-16, reached, short, all_reached}
 use Rattle.threshold.proofs.judge_clauses.Given as goal
 
 abbrev pub invariant-loop-i : goal.invariant-loop-i

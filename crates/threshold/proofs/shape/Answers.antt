@@ -1,6 +1,5 @@
 use borrow.Author.Tests.{eq-eqb, ne_eqb, le-leb, lt-leb}
 use Rattle.threshold.specs.Threshold.{shape_of}
-use borrow.Author.Rules.{rules}
 use Rattle.threshold.proofs.shape.Goals as goal
 
 pub returns-then-t-eq0 : goal.returns-then-t-eq0

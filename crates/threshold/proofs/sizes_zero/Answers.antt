@@ -1,12 +1,10 @@
-use mathlib.Core.Path.{◌≡◌, refl, sym, ◌∙◌}
+use mathlib.Core.Path.{◌≡◌, sym, ◌∙◌}
 use Prim.Native.Nat.{◌-◌}
 use native.Mathlib.Omega.{arith}
-use lib.ListN.{length, drop}
+use lib.ListN.{length}
 use lib.Dec.{eqb}
 use borrow.Author.Tests.{eq-eqb, ne_eqb}
-use Rattle.lists.specs.Lists.{all}
 use Rattle.lists.proofs.Walks.{head_of, all_stop, all-next, all_end}
-use borrow.Author.Rules.{rules}
 use Rattle.threshold.proofs.sizes_zero.Goals as goal
 
 pub returns-then-sizes-i-ne0 : goal.returns-then-sizes-i-ne0

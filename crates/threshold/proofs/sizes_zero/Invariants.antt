@@ -1,11 +1,8 @@
-use mathlib.Core.Path.{◌≡◌, refl, sym, ◌∙◌}
+use mathlib.Core.Path.{◌≡◌}
 use Prim.Native.Nat.{◌-◌}
-use native.Mathlib.Omega.{arith}
 use lib.ListN.{length, drop}
 use lib.Dec.{eqb}
-use borrow.Author.Tests.{eq-eqb, ne_eqb}
 use Rattle.lists.specs.Lists.{all}
-use Rattle.lists.proofs.Walks.{head_of, all_stop, all-next, all_end}
 use Rattle.threshold.proofs.sizes_zero.Given as goal
 
 abbrev pub invariant-loop-i : goal.invariant-loop-i

@@ -1,12 +1,10 @@
-use mathlib.Core.Path.{◌≡◌, refl, sym, ◌∙◌}
+use mathlib.Core.Path.{◌≡◌, sym, ◌∙◌}
 use Prim.Native.Nat.{◌-◌}
 use native.Mathlib.Omega.{arith}
-use lib.ListN.{length, drop, take}
+use lib.ListN.{length, take}
 use lib.Dec.{eqb}
 use borrow.Author.Tests.{eq-eqb, ne_eqb}
-use Rattle.lists.specs.Lists.{any}
 use Rattle.lists.proofs.Walks.{head_at, used-end, array_end, any_here, any_next, any-end}
-use borrow.Author.Rules.{rules}
 use Rattle.threshold.proofs.some_empty.Goals as goal
 
 pub returns-then-n-i : goal.returns-then-n-i

@@ -1,11 +1,8 @@
-use mathlib.Core.Path.{◌≡◌, refl, sym, ◌∙◌}
+use mathlib.Core.Path.{◌≡◌}
 use Prim.Native.Nat.{◌-◌}
-use native.Mathlib.Omega.{arith}
 use lib.ListN.{length, drop, take}
 use lib.Dec.{eqb}
-use borrow.Author.Tests.{eq-eqb, ne_eqb}
 use Rattle.lists.specs.Lists.{any}
-use Rattle.lists.proofs.Walks.{head_at, used-end, array_end, any_here, any_next, any-end}
 use Rattle.threshold.proofs.some_empty.Given as goal
 
 abbrev pub invariant-loop-i : goal.invariant-loop-i

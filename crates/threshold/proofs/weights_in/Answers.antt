@@ -1,11 +1,10 @@
 use mathlib.Core.Path.{◌≡◌}
-use Prim.Native.Nat.{◌+◌, ◌*◌, ◌≤◌, ◌-◌}
+use Prim.Native.Nat.{◌-◌}
 use native.Mathlib.Omega.{arith}
-use lib.ListN.{length, drop, take, get_or}
+use lib.ListN.{length, take, get_or}
 use mir.Val.{Fits}
 use mir.Syntax.{w8}
 use Rattle.lists.proofs.Walks.{head_at, used-end, array_end}
-use Rattle.threshold.specs.Threshold.{sum}
 use Rattle.threshold.proofs.Laws.{sum-next, sum-end}
 use borrow.Author.Rules.{rules}
 use Rattle.threshold.proofs.weights_in.Goals as goal

@@ -1,12 +1,7 @@
 use mathlib.Core.Path.{◌≡◌}
 use Prim.Native.Nat.{◌+◌, ◌*◌, ◌≤◌, ◌-◌}
-use native.Mathlib.Omega.{arith}
-use lib.ListN.{length, drop, take, get_or}
-use mir.Val.{Fits}
-use mir.Syntax.{w8}
-use Rattle.lists.proofs.Walks.{head_at, used-end, array_end}
+use lib.ListN.{length, drop, take}
 use Rattle.threshold.specs.Threshold.{sum}
-use Rattle.threshold.proofs.Laws.{sum-next, sum-end}
 use Rattle.threshold.proofs.weights_in.Given as goal
 
 abbrev pub invariant-loop-i : goal.invariant-loop-i

@@ -1,13 +1,10 @@
-use mathlib.Core.Path.{◌≡◌, refl, sym, ◌∙◌}
+use mathlib.Core.Path.{◌≡◌, sym, ◌∙◌}
 use Prim.Native.Nat.{◌-◌}
 use native.Mathlib.Omega.{arith}
-use lib.ListN.{length, drop}
-use borrow.Author.Tests.{not-true, not-false}
-use Rattle.lists.specs.Lists.{all}
+use lib.ListN.{length}
 use Rattle.lists.proofs.Walks.{head_of, all_stop, all-next, all_end}
 use Rattle.weight.specs.Weight.{zero_weight}
 use Rattle.threshold.proofs.Laws.{no_weight}
-use borrow.Author.Rules.{rules}
 use Rattle.threshold.proofs.weights_zero.Goals as goal
 
 pub returns-then-not-is_zero : goal.returns-then-not-is_zero

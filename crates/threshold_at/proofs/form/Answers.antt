@@ -1,9 +1,6 @@
-use mathlib.Core.Path.{◌∙◌, ap}
-use Rattle.threshold.specs.declared.Threshold.{Threshold}
-use Rattle.threshold.specs.Threshold.{well_formed}
+use mathlib.Core.Path.{◌∙◌}
 use Rattle.threshold_field.specs.ThresholdField.{threshold_of}
 use Rattle.threshold_at.proofs.Laws.{form-simple}
-use borrow.Author.Rules.{rules}
 use Rattle.threshold_at.proofs.form.Goals as goal
 
 pub returns-then-m-eq0 : goal.returns-then-m-eq0

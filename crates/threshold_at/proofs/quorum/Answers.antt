@@ -1,10 +1,7 @@
-use mathlib.Core.Path.{◌∙◌, ap}
-use Rattle.authority.specs.Authority.{quorum}
+use mathlib.Core.Path.{◌∙◌}
 use Rattle.places.specs.Places.{places_in}
-use Rattle.threshold.specs.declared.Threshold.{Threshold}
 use Rattle.threshold_at.proofs.Laws.{simple_is}
 use Rattle.threshold_field.specs.ThresholdField.{threshold_of}
-use borrow.Author.Rules.{rules}
 use Rattle.threshold_at.proofs.quorum.Goals as goal
 
 pub returns-then-m-eq0 : goal.returns-then-m-eq0

@@ -1,11 +1,8 @@
-use mathlib.Core.Path.{◌≡◌, refl}
-use Prim.Native.Nat.{◌+◌, ◌≤◌, ◌-◌}
-use native.Mathlib.Omega.{arith}
+use mathlib.Core.Path.{◌≡◌}
+use Prim.Native.Nat.{◌≤◌, ◌-◌}
 use Rattle.lists.specs.Lists.{padded}
 use Rattle.cursor.specs.Spans.{list_of}
-use Rattle.cursor.proofs.Laws.{list_more}
 use Rattle.threshold_field.specs.ThresholdField.{byte_of}
-use Rattle.threshold_field.proofs.Laws.{fill_none, fill-over, fill-short, fill-all}
 use Rattle.threshold_field.proofs.copy_sizes.Given as goal
 
 abbrev pub invariant-loop-i : goal.invariant-loop-i

@@ -2,7 +2,6 @@ use mathlib.Core.Path.{sym, ap, ◌∙◌}
 use native.Mathlib.Omega.{arith}
 use Rattle.cursor.specs.Cursor.{is64}
 use Rattle.threshold_field.proofs.Laws.{number_there, middle, weight_is}
-use borrow.Author.Rules.{rules}
 use Rattle.threshold_field.proofs.copy_weight.Goals as goal
 
 pub returns-in_default : goal.returns-in_default

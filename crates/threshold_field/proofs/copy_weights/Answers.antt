@@ -1,8 +1,6 @@
-use mathlib.Core.Path.{◌≡◌, refl}
-use Prim.Native.Nat.{◌+◌, ◌*◌, ◌≤◌, ◌-◌}
+use mathlib.Core.Path.{refl}
+use Prim.Native.Nat.{◌+◌, ◌*◌, ◌-◌}
 use native.Mathlib.Omega.{arith}
-use Rattle.lists.specs.Lists.{padded}
-use Rattle.cursor.specs.Spans.{list_of}
 use Rattle.cursor.proofs.Laws.{list_more}
 use Rattle.threshold_field.specs.ThresholdField.{weight_of, no_weight}
 use Rattle.threshold_field.proofs.Laws.{fill_none, fill-over, fill-short, fill-all}

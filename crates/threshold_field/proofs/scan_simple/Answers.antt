@@ -1,7 +1,6 @@
 use mathlib.Core.Path.{sym, ap, ◌∙◌}
 use Rattle.cursor.specs.Cursor.{is64}
 use Rattle.threshold_field.specs.ThresholdField.{marks_as}
-use borrow.Author.Rules.{rules}
 use Rattle.threshold_field.proofs.scan_simple.Goals as goal
 
 pub returns-in_default : goal.returns-in_default

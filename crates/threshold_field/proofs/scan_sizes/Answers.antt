@@ -1,11 +1,8 @@
-use mathlib.Core.Path.{◌≡◌, sym, ap, ◌∙◌}
-use Prim.Native.Nat.{◌≤◌, ◌-◌}
-use native.Mathlib.Nat.{sub-zero}
+use mathlib.Core.Path.{sym, ap, ◌∙◌}
+use Prim.Native.Nat.{◌-◌}
 use native.Mathlib.Omega.{arith}
 use Rattle.cursor.specs.Cursor.{is8}
-use Rattle.threshold_field.specs.ThresholdField.{total_at}
 use Rattle.threshold_field.proofs.Laws.{total_more, total_many, total_stop, total-end}
-use borrow.Author.Rules.{rules}
 use Rattle.threshold_field.proofs.scan_sizes.Goals as goal
 
 pub returns-in_default : goal.returns-in_default

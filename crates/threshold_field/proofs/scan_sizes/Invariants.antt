@@ -1,10 +1,6 @@
-use mathlib.Core.Path.{◌≡◌, sym, ap, ◌∙◌}
+use mathlib.Core.Path.{◌≡◌}
 use Prim.Native.Nat.{◌≤◌, ◌-◌}
-use native.Mathlib.Nat.{sub-zero}
-use native.Mathlib.Omega.{arith}
-use Rattle.cursor.specs.Cursor.{is8}
 use Rattle.threshold_field.specs.ThresholdField.{total_at}
-use Rattle.threshold_field.proofs.Laws.{total_more, total_many, total_stop, total-end}
 use Rattle.threshold_field.proofs.scan_sizes.Given as goal
 
 abbrev pub invariant-loop-i : goal.invariant-loop-i

@@ -1,11 +1,10 @@
-use mathlib.Core.Path.{sym, ap, subst, ◌∙◌}
+use mathlib.Core.Path.{sym, ap, ◌∙◌}
 use Prim.Native.Nat.{◌*◌}
 use native.Mathlib.Omega.{arith}
 use borrow.Author.Tests.{le-leb, lt-leb}
 use Rattle.cursor.specs.Cursor.{is8}
-use Rattle.threshold_field.specs.ThresholdField.{weighted_at, total_is, Small}
+use Rattle.threshold_field.specs.ThresholdField.{weighted_at, total_is}
 use Rattle.threshold_field.proofs.Laws.{pass_got, pass_short}
-use borrow.Author.Rules.{rules}
 use Rattle.threshold_field.proofs.scan_weighted.Goals as goal
 
 pub returns-in_default : goal.returns-in_default

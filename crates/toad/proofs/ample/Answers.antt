@@ -1,7 +1,5 @@
-use mathlib.Core.Path.{sym, ◌∙◌, ap}
-use Rattle.toad.specs.Toad.{taken}
-use Rattle.toad.proofs.Laws.{ample-fits, ample-taken, ample-refused}
-use borrow.Author.Rules.{rules}
+use mathlib.Core.Path.{sym, ◌∙◌}
+use Rattle.toad.proofs.Laws.{ample-fits, ample-refused}
 use Rattle.toad.proofs.ample.Goals as goal
 
 pub returns-then-witnesses-ge-TOO_MANY : goal.returns-then-witnesses-ge-TOO_MANY

@@ -1,7 +1,6 @@
 use mathlib.Core.Path.{sym, ◌∙◌}
 use borrow.Author.Tests.{eq-eqb, ne_eqb}
 use Rattle.toad.specs.Toad.{witness_threshold}
-use borrow.Author.Rules.{rules}
 use Rattle.toad.proofs.check_witness_threshold.Goals as goal
 
 pub returns-then-in_range : goal.returns-then-in_range

@@ -1,5 +1,4 @@
 use Rattle.toad.proofs.Laws.{ample-none, ample-some}
-use borrow.Author.Rules.{rules}
 use Rattle.toad.proofs.least_ample.Goals as goal
 
 pub returns-then-n-eq0 : goal.returns-then-n-eq0

@@ -1,11 +1,10 @@
-use mathlib.Core.Path.{◌≡◌, refl, sym, ◌∙◌}
+use mathlib.Core.Path.{◌≡◌}
 use mathlib.Core.Bool.{false}
 use Prim.Native.Nat.{◌≤◌, ◌-◌}
-use native.Mathlib.Omega.{arith}
 use lib.ListN.{length, take}
 use Rattle.lists.specs.Lists.{any}
 use Rattle.verification.specs.Verification.{same_wire, counted_of}
-use Rattle.verification.proofs.Laws.{places-48, counted_none, next-copy, next_more, used_all, array_all, none_before, firsts_in, firsts-none, firsts-kept, firsts-with, list_copy, list_other}
+use Rattle.verification.proofs.Laws.{firsts_in}
 use Rattle.verification.proofs.count.Given as goal
 
 abbrev pub invariant-loop-j : goal.invariant-loop-j

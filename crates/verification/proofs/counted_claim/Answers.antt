@@ -3,7 +3,6 @@ use native.Mathlib.Omega.{arith}
 use borrow.Author.Tests.{not-true, not-false}
 use Rattle.verification.specs.Verification.{claimed}
 use Rattle.verification.proofs.Laws.{counted_off, counted_past, counted_in_lem, within_at}
-use borrow.Author.Rules.{rules}
 use Rattle.verification.proofs.counted_claim.Goals as goal
 
 pub returns-then-not-s : goal.returns-then-not-s

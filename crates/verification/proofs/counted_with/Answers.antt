@@ -1,6 +1,4 @@
-use mathlib.Core.Path.{◌∙◌}
 use Rattle.verification.specs.Verification.{counted_with, exposed_with}
-use borrow.Author.Rules.{rules}
 use Rattle.verification.proofs.counted_with.Goals as goal
 
 pub returns : goal.returns

@@ -1,12 +1,8 @@
-use mathlib.Core.Path.{◌≡◌, refl, sym, ◌∙◌}
+use mathlib.Core.Path.{◌≡◌}
 use Prim.Native.Nat.{◌≤◌, ◌-◌}
-use native.Mathlib.Omega.{arith}
-use borrow.Author.Tests.{not-true, not-false}
 use lib.ListN.{length, drop, take}
 use Rattle.lists.specs.Lists.{all}
-use Rattle.lists.proofs.Walks.{head_at, used-end, array_end, all_stop, all-next, all_end}
-use Rattle.verification.specs.Verification.{signatures, ondex_fits}
-use Rattle.verification.proofs.Laws.{blank, places-48}
+use Rattle.verification.specs.Verification.{ondex_fits}
 use Rattle.verification.proofs.ondexes_fit.Given as goal
 
 abbrev pub invariant-loop-i : goal.invariant-loop-i

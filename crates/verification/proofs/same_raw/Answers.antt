@@ -1,8 +1,6 @@
-use mathlib.Core.Path.{◌≡◌, sym, ◌∙◌}
-use Prim.Native.Nat.{◌≤◌, ◌-◌}
+use mathlib.Core.Path.{sym, ◌∙◌}
+use Prim.Native.Nat.{◌-◌}
 use native.Mathlib.Omega.{arith}
-use lib.ListN.{drop}
-use Rattle.lists.specs.Lists.{same_numbers}
 use Rattle.lists.proofs.Walks.{same_next, same_stop, same_end}
 use borrow.Author.Rules.{rules}
 use Rattle.verification.proofs.same_raw.Goals as goal

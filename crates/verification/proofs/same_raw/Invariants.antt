@@ -1,9 +1,7 @@
-use mathlib.Core.Path.{◌≡◌, sym, ◌∙◌}
+use mathlib.Core.Path.{◌≡◌}
 use Prim.Native.Nat.{◌≤◌, ◌-◌}
-use native.Mathlib.Omega.{arith}
 use lib.ListN.{drop}
 use Rattle.lists.specs.Lists.{same_numbers}
-use Rattle.lists.proofs.Walks.{same_next, same_stop, same_end}
 use Rattle.verification.proofs.same_raw.Given as goal
 
 abbrev pub invariant-loop-i : goal.invariant-loop-i

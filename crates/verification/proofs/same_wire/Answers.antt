@@ -1,7 +1,6 @@
 use mathlib.Core.Path.{sym, ◌∙◌}
-use borrow.Author.Tests.{eq-eqb, ne_eqb, not-true, not-false}
+use borrow.Author.Tests.{eq-eqb, ne_eqb}
 use Rattle.verification.specs.Verification.{same_wire}
-use borrow.Author.Rules.{rules}
 use Rattle.verification.proofs.same_wire.Goals as goal
 
 pub returns-then-a-b : goal.returns-then-a-b

@@ -1,7 +1,6 @@
 use mathlib.Core.Path.{sym, ◌∙◌}
-use borrow.Author.Tests.{lt-leb, le-leb, not-true, not-false}
+use borrow.Author.Tests.{lt-leb, le-leb}
 use Rattle.verification.specs.Verification.{shape_of}
-use borrow.Author.Rules.{rules}
 use Rattle.verification.proofs.shape.Goals as goal
 
 pub returns-then-l-gt48 : goal.returns-then-l-gt48

@@ -1,13 +1,9 @@
-use mathlib.Core.Path.{◌≡◌, refl, sym, ◌∙◌}
+use mathlib.Core.Path.{sym, ◌∙◌}
 use Prim.Native.Nat.{◌-◌}
 use native.Mathlib.Omega.{arith}
-use borrow.Author.Tests.{not-true, not-false}
-use lib.ListN.{length, drop}
-use Rattle.lists.specs.Lists.{all}
 use Rattle.lists.proofs.Walks.{head_of, all_stop, all-next, all_end}
 use Rattle.verification.specs.Verification.{zero_siger}
-use Rattle.verification.proofs.Laws.{blank, places-48}
-use borrow.Author.Rules.{rules}
+use Rattle.verification.proofs.Laws.{blank}
 use Rattle.verification.proofs.unused_zero.Goals as goal
 
 pub returns-then-not-is_zero : goal.returns-then-not-is_zero

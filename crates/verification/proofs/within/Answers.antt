@@ -1,6 +1,5 @@
 use borrow.Author.Tests.{lt-ltb, le-ltb}
 use Rattle.verification.specs.Verification.{place_within}
-use borrow.Author.Rules.{rules}
 use Rattle.verification.proofs.within.Goals as goal
 
 pub returns-then-at-n : goal.returns-then-at-n

@@ -1,12 +1,12 @@
-use mathlib.Core.Path.{◌≡◌, refl, ◌∙◌, ap}
+use mathlib.Core.Path.{◌∙◌, ap}
 use mathlib.Core.List.{List}
-use Prim.Native.Nat.{ℕ, ◌-◌, ◌+◌, ◌^◌, ◌≤◌, ◌<◌}
+use Prim.Native.Nat.{ℕ, ◌-◌, ◌^◌, ◌<◌}
 use native.Mathlib.Omega.{arith}
 use lib.ListN.{length}
 use Rattle.layout.specs.Records.{first_of, next_in}
 use Rattle.in_place.specs.Calls.{offered_in}
 use Rattle.walk.specs.Walk.{Lent, lent}
-use Rattle.walk.proofs.Laws.{parts, Walking, walking_start, walking_next, walking_end, whole, next-some, next-within}
+use Rattle.walk.proofs.Laws.{parts, walking_next, walking_end, whole, next-some, next-within}
 use borrow.Author.Rules.{rules}
 use Rattle.walk.proofs.walk.Goals as goal
 

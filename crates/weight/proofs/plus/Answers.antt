@@ -1,6 +1,5 @@
 use mathlib.Core.Path.{sym, ◌∙◌}
 use Rattle.weight.specs.Weight.{plus}
-use borrow.Author.Rules.{rules}
 use Rattle.weight.proofs.plus.Goals as goal
 
 pub returns-in_default : goal.returns-in_default

@@ -1,6 +1,5 @@
 use borrow.Author.Tests.{eq-eqb, ne_eqb}
 use Rattle.weight.specs.Weight.{weigh}
-use borrow.Author.Rules.{rules}
 use Rattle.weight.proofs.weigh.Goals as goal
 
 pub returns-then-w-eq0 : goal.returns-then-w-eq0

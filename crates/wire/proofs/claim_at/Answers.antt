@@ -1,5 +1,4 @@
 use Rattle.wire.proofs.Laws.{claim_is}
-use borrow.Author.Rules.{rules}
 use Rattle.wire.proofs.claim_at.Goals as goal
 
 pub returns : goal.returns

@@ -1,11 +1,7 @@
-use mathlib.Core.Path.{◌≡◌, sym, ◌∙◌}
+use mathlib.Core.Path.{sym, ◌∙◌}
 use mathlib.Core.Bool.{false}
-use Prim.Native.Nat.{◌+◌, ◌*◌, ◌≤◌, ◌-◌}
+use Prim.Native.Nat.{◌-◌}
 use native.Mathlib.Omega.{arith}
-use Rattle.lists.specs.Lists.{any}
-use Rattle.cursor.specs.Spans.{list_of}
-use Rattle.verification.specs.Verification.{same_wire}
-use Rattle.wire.specs.Wire.{siger_of}
 use Rattle.wire.proofs.Laws.{none_before, list_copy, list_other}
 use borrow.Author.Rules.{rules}
 use Rattle.wire.proofs.copied.Goals as goal

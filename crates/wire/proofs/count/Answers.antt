@@ -1,10 +1,8 @@
-use mathlib.Core.Path.{◌≡◌, refl, sym, ap, ◌∙◌}
-use Prim.Native.Nat.{◌≤◌, ◌-◌}
+use mathlib.Core.Path.{refl, sym, ap, ◌∙◌}
+use Prim.Native.Nat.{◌-◌}
 use native.Mathlib.Omega.{arith}
-use Rattle.cursor.specs.Spans.{list_of}
 use Rattle.verification.specs.declared.Claim.{Claim}
-use Rattle.verification.specs.Verification.{counted_of, counted_with, claimed}
-use Rattle.wire.specs.Wire.{siger_of, firsts_from}
+use Rattle.verification.specs.Verification.{counted_with, claimed}
 use Rattle.wire.proofs.Laws.{count_none, count-over, count-short, count-all, next-copy, next_more, firsts-none, firsts-kept, firsts-with}
 use borrow.Author.Rules.{rules}
 use Rattle.wire.proofs.count.Goals as goal

@@ -1,11 +1,8 @@
-use mathlib.Core.Path.{◌≡◌, refl, sym, ap, ◌∙◌}
+use mathlib.Core.Path.{◌≡◌}
 use Prim.Native.Nat.{◌≤◌, ◌-◌}
-use native.Mathlib.Omega.{arith}
 use Rattle.cursor.specs.Spans.{list_of}
-use Rattle.verification.specs.declared.Claim.{Claim}
-use Rattle.verification.specs.Verification.{counted_of, counted_with, claimed}
+use Rattle.verification.specs.Verification.{counted_of}
 use Rattle.wire.specs.Wire.{siger_of, firsts_from}
-use Rattle.wire.proofs.Laws.{count_none, count-over, count-short, count-all, next-copy, next_more, firsts-none, firsts-kept, firsts-with}
 use Rattle.wire.proofs.count.Given as goal
 
 abbrev pub invariant-loop-i : goal.invariant-loop-i

@@ -1,8 +1,6 @@
-use mathlib.Core.Path.{sym, ◌∙◌}
-use borrow.Author.Tests.{not-true, not-false}
+use mathlib.Core.Path.{sym}
 use Rattle.firsts.specs.Firsts.{has_first}
 use Rattle.wire.proofs.Laws.{same_first, other_too}
-use borrow.Author.Rules.{rules}
 use Rattle.wire.proofs.is_copy.Goals as goal
 
 pub returns-then-s-p : goal.returns-then-s-p

@@ -2,10 +2,8 @@ use mathlib.Core.Path.{sym, ap, ◌∙◌}
 use Prim.Native.Nat.{ℕ, ◌+◌}
 use native.Mathlib.Omega.{arith}
 use lib.Dec.{eqb}
-use borrow.Author.Tests.{not-true, not-false}
 use Rattle.wire.specs.Wire.{word_of}
 use Rattle.wire.proofs.Laws.{same-raw, same_code, same_index, same_dual, same_ondex}
-use borrow.Author.Rules.{rules}
 use Rattle.wire.proofs.same_at.Goals as goal
 
 pub returns-then-not-same_raw : goal.returns-then-not-same_raw

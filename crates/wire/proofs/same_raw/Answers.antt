@@ -1,9 +1,7 @@
-use mathlib.Core.Path.{◌≡◌, refl, sym, ◌∙◌}
-use Prim.Native.Nat.{◌≤◌, ◌-◌}
+use mathlib.Core.Path.{sym, ◌∙◌}
+use Prim.Native.Nat.{◌-◌}
 use native.Mathlib.Omega.{arith}
-use lib.ListN.{take, drop}
-use Rattle.lists.specs.Lists.{both, same_numbers}
-use Rattle.wire.proofs.Laws.{left, run_more, run-over}
+use Rattle.wire.proofs.Laws.{run_more, run-over}
 use borrow.Author.Rules.{rules}
 use Rattle.wire.proofs.same_raw.Goals as goal
 

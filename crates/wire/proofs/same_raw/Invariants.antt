@@ -1,9 +1,8 @@
-use mathlib.Core.Path.{◌≡◌, refl, sym, ◌∙◌}
+use mathlib.Core.Path.{◌≡◌}
 use Prim.Native.Nat.{◌≤◌, ◌-◌}
-use native.Mathlib.Omega.{arith}
 use lib.ListN.{take, drop}
 use Rattle.lists.specs.Lists.{both, same_numbers}
-use Rattle.wire.proofs.Laws.{left, run_more, run-over}
+use Rattle.wire.proofs.Laws.{left}
 use Rattle.wire.proofs.same_raw.Given as goal
 
 abbrev pub invariant-loop-i : goal.invariant-loop-i

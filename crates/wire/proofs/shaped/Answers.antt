@@ -1,8 +1,6 @@
 use mathlib.Core.Path.{sym, ◌∙◌}
 use native.Mathlib.Omega.{arith}
-use borrow.Author.Tests.{not-true, not-false}
 use Rattle.wire.proofs.Laws.{shaped-short, shaped-flag, shaped_ondex, shaped_verified, shaped_rest}
-use borrow.Author.Rules.{rules}
 use Rattle.wire.proofs.shaped.Goals as goal
 
 pub returns-then-len-at : goal.returns-then-len-at

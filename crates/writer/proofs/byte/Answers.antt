@@ -1,7 +1,6 @@
 use native.Mathlib.Omega.{arith}
-use mathlib.Core.List.{[], ◌∷◌}
+use mathlib.Core.List.{◌∷◌, []}
 use Rattle.writer.proofs.Laws.{no_room, whole, byte_wrote}
-use borrow.Author.Rules.{rules}
 use Rattle.writer.proofs.byte.Goals as goal
 
 pub returns-then-buf-at : goal.returns-then-buf-at

@@ -1,9 +1,8 @@
-use mathlib.Core.Path.{◌≡◌, refl, ap}
+use mathlib.Core.Path.{◌≡◌, ap}
 use mathlib.Core.Bool.{not}
-use Prim.Native.Nat.{◌+◌, ◌-◌, ◌≤◌}
 use native.Mathlib.Omega.{arith}
-use lib.ListN.{length, drop}
-use Rattle.writer.proofs.Laws.{is_room, is_none, no_room, whole, Left, bytes-start, bytes_more, bytes-end}
+use lib.ListN.{length}
+use Rattle.writer.proofs.Laws.{is_none, no_room, whole, bytes_more, bytes-end}
 use borrow.Author.Rules.{rules}
 use Rattle.writer.proofs.bytes.Goals as goal
 

@@ -1,8 +1,7 @@
-use mathlib.Core.Path.{◌≡◌, refl}
+use mathlib.Core.Path.{◌≡◌}
 use Prim.Native.Nat.{◌+◌, ◌-◌, ◌≤◌}
-use native.Mathlib.Omega.{arith}
 use lib.ListN.{length, drop}
-use Rattle.writer.proofs.Laws.{is_room, is_none, no_room, whole, Left, bytes-start, bytes_more, bytes-end}
+use Rattle.writer.proofs.Laws.{Left}
 use Rattle.writer.proofs.bytes.Given as goal
 
 abbrev pub invariant-loop-i : goal.invariant-loop-i

@@ -1,10 +1,8 @@
 use mathlib.Core.Bool.{not}
-use mathlib.Core.Path.{◌≡◌, refl, ap}
-use Prim.Native.Nat.{◌+◌, ◌≤◌}
+use mathlib.Core.Path.{ap}
 use native.Mathlib.Omega.{arith}
-use lib.ListN.{length}
-use Rattle.writer.specs.Writing.{be, over}
-use Rattle.writer.proofs.Laws.{is_room, is_none, no_room, whole, length-be, be-digits, digits_less, digits-end}
+use Rattle.writer.specs.Writing.{be}
+use Rattle.writer.proofs.Laws.{is_none, no_room, whole, length-be, be-digits, digits_less, digits-end}
 use borrow.Author.Rules.{rules}
 use Rattle.writer.proofs.number.Goals as goal
 

@@ -1,9 +1,7 @@
-use mathlib.Core.Path.{◌≡◌, refl}
+use mathlib.Core.Path.{◌≡◌}
 use Prim.Native.Nat.{◌+◌, ◌≤◌}
-use native.Mathlib.Omega.{arith}
 use lib.ListN.{length}
 use Rattle.writer.specs.Writing.{be, over}
-use Rattle.writer.proofs.Laws.{is_room, is_none, no_room, whole, length-be, be-digits, digits_less, digits-end}
 use Rattle.writer.proofs.number.Given as goal
 
 abbrev pub invariant-loop-i : goal.invariant-loop-i
