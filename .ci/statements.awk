@@ -106,6 +106,17 @@ function open_methods(    before, head, n, block) {
     all = before all
 }
 
+# Tests promise nothing.
+function leave_tests(    before) {
+    before = ""
+    while (match(all, /#\[cfg\(test\)\] *mod +[a-z_]+ *\{/)) {
+        before = before substr(all, 1, RSTART - 1)
+        all = substr(all, RSTART + RLENGTH - 1)
+        all = substr(all, run(all, "{", "}") + 1)
+    }
+    all = before all
+}
+
 function look(    crate) {
     crate = file
     sub(/\/src\/.*/, "", crate)
@@ -113,6 +124,7 @@ function look(    crate) {
     if (index(all, "/*")) print file ": has a /* comment, which this does not read"
     # the ; of an array's type ends no head
     gsub(/; *[A-Za-z0-9_:]+\]/, "]", all)
+    leave_tests()
     open_methods()
     while (match(all, /[^A-Za-z0-9_]pub +(([a-z]+|"") +)*fn +/)) {
         all = substr(all, RSTART + RLENGTH)
