@@ -149,7 +149,7 @@ def main(argv):
         else:
             new = turn(text, odd, {})
         # a fact of threshold_field, whose name is a number's elsewhere
-        if path.startswith("crates/threshold_field/") and "ThresholdField" in path + new:
+        if path.startswith("crates/threshold_field/") and "ThresholdField" in path + new and not path.endswith("/Answers.antt"):
             new = re.sub(r"(?<!ensures )(?<![\w.-])small(?![\w-])", "Small", new)
         if new != text:
             with open(path, "w", encoding="utf-8", newline="") as it:
