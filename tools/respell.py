@@ -99,13 +99,15 @@ def renames():
 
 
 def turn(text, defined, cited):
+    aliases = set(re.findall(r"(?m)^use \S+ as (\S+)$", text))
+
     def new(m):
         it = m[0]
         if it in defined:
             return defined[it]
         # Behind a dot stands a lemma only where a module is named before it, and else a field or a step.
         before = re.search(r"([^\s(){}.;,]*)\.$", text[max(0, m.start() - 80) : m.start()])
-        return cited.get(it, it) if not before or before[1][:1].isupper() else it
+        return cited.get(it, it) if not before or before[1][:1].isupper() or before[1] in aliases else it
 
     return TOKEN.sub(new, text)
 

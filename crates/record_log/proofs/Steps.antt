@@ -94,7 +94,7 @@ module _ (h : Holder) (mark next : ℕ) where
   counts-taken : (c : Content) → Shaped c → passes (taken h c).answer ≡ true → (fs : List First) → RunsOn (expects (taken h c).holder) fs
       → RunsOn (expects h) (record_of mark c next ∷ fs)
   unfolding is_held
-  counts-taken (event e) good p fs r = (events.takes-next h e p, rw (events.waits-next h e p) at r)
+  counts-taken (event e) good p fs r = (events.takes-next h e p, rw (events.waits_next h e p) at r)
   counts-taken (snapshot s) good p fs r = rw p at r
   counts-taken (refusal n) good p fs r = let z : n ≡ 0 = eqb-true n 0 p in let two = good.0 in absurd (omega arith)
 
