@@ -22,9 +22,9 @@ library() {
     mkdir -p "$work"
     [ ! -e "$work/libkeystate.a" ] || [ "$(archive_sum)" != "$(cat "$work/sum" 2>/dev/null)" ] || return 0
     if [ -n "${OVER_CI:-}" ]; then
-        static_library device crates/device/src/lib.rt "$work/libkeystate.a"
+        static_library device_c crates/device_c/src/lib.rt "$work/libkeystate.a"
     else
-        (cd crates/device && rt lib) && cp crates/device/out/libdevice.a "$work/libkeystate.a"
+        (cd crates/device_c && rt lib) && cp crates/device_c/out/libdevice_c.a "$work/libkeystate.a"
     fi >"$work/log" 2>&1 || { tail -n 20 "$work/log"; exit 1; }
     archive_sum >"$work/sum"
 }

@@ -1,12 +1,12 @@
 # What a script needs that calls the kit's compiler itself, sourced at the top of the checkout, after tools/kit.sh.
 
 # static_library NAME ROOT OUT [FLAG..]: proves the crate NAME, whose root file is ROOT, and compiles it as a static library OUT, over the
-# libraries in crates/*/out/rlib as they stand. It may use what crates.txt lists for the device. --toolchain DIR: another than the kit's.
+# libraries in crates/*/out/rlib as they stand. It may use what crates.txt lists for device_c. --toolchain DIR: another than the kit's.
 static_library() {
     local name=$1 root=$2 out=$3 dep words=()
     shift 3
     [[ " $* " == *" --toolchain "* ]] || words+=(--toolchain "$tools")
-    for dep in $(sed -n 's/^device[^:]*: *//p' crates.txt | sed 's/#.*//'); do
+    for dep in $(sed -n 's/^device_c[^:]*: *//p' crates.txt | sed 's/#.*//'); do
         if [ -d "crates/$dep" ]; then words+=(--extern "$dep=crates/$dep/out/rlib/$dep.rlib"); else words+=(--extern "$dep=$kit/rlibs/$dep.rlib"); fi
     done
     # what those stand on is found there

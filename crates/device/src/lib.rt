@@ -1,4 +1,4 @@
-// The device's static library: the calls on a state that lies in a lent buffer, as its snapshot's bytes or as nothing.
+// The device's calls, which crate device_c exports to C: on a state that lies in a lent buffer, as its snapshot's bytes or as nothing.
 #![tactic(auto)]
 
 ghost use Rattle.std.specs.Prelude.{◌≡◌, false};
@@ -23,8 +23,7 @@ fn tell(x: Answer, details: &mut [u64; 4]) -> u8
 }
 
 // The first record of `input` is offered to the state in the buffer; what stands behind that record is not looked at.
-#[unsafe(no_mangle)]
-pub extern "C" fn keystate_offer(
+pub fn keystate_offer(
     state: &mut [u8],
     used: &mut usize,
     input: &[u8],
@@ -40,13 +39,7 @@ pub extern "C" fn keystate_offer(
 }
 
 // The same without the checks: for a history that was checked before.
-#[unsafe(no_mangle)]
-pub extern "C" fn keystate_fold(
-    state: &mut [u8],
-    used: &mut usize,
-    input: &[u8],
-    details: &mut [u64; 4],
-) -> u8
+pub fn keystate_fold(state: &mut [u8], used: &mut usize, input: &[u8], details: &mut [u64; 4]) -> u8
     ensures value { result ≡ (folded_in state.old used.old input.now).answer.number }
     ensures details_after { details.new ≡ words (folded_in state.old used.old input.now).answer }
     ensures state_after { state.new ≡ (folded_in state.old used.old input.now).bytes }
@@ -57,8 +50,7 @@ pub extern "C" fn keystate_fold(
 }
 
 // `state` is the used bytes alone.
-#[unsafe(no_mangle)]
-pub extern "C" fn keystate_ask(state: &[u8], details: &mut [u64; 4]) -> u8
+pub fn keystate_ask(state: &[u8], details: &mut [u64; 4]) -> u8
     ensures value { result ≡ (asked state.now).number }
     ensures details_after { details.new ≡ words (asked state.now) }
 {
@@ -67,8 +59,7 @@ pub extern "C" fn keystate_ask(state: &[u8], details: &mut [u64; 4]) -> u8
 }
 
 // "Otherwise the length leads to the next record, refused or not."
-#[unsafe(no_mangle)]
-pub extern "C" fn keystate_length(input: &[u8]) -> usize
+pub fn keystate_length(input: &[u8]) -> usize
     ensures { result ≡ length_in input.now }
 {
     found::length(input)
@@ -105,8 +96,7 @@ fn flag(b: bool) -> u8
 }
 
 // `yes` becomes 1 or 0; 0 where the number is not 0.
-#[unsafe(no_mangle)]
-pub extern "C" fn keystate_attainable(threshold: &[u8], keys: usize, yes: &mut u8) -> u8
+pub fn keystate_attainable(threshold: &[u8], keys: usize, yes: &mut u8) -> u8
     ensures value { result ≡ (attainable_in threshold.now keys).number }
     ensures yes_after { yes.new ≡ flag_byte (attainable_in threshold.now keys).yes }
 {
