@@ -37,7 +37,7 @@ extern "C" {
 /* No record that can be accepted is longer, with its 4 leading bytes. */
 #define KEYSTATE_RECORD_BYTES 10089
 /* Measured by measure/stack, rounded up; it is no part of what is proved. */
-#define KEYSTATE_STACK_BYTES 12288
+#define KEYSTATE_STACK_BYTES 14336
 
 /* The numbers. a and b are the details: 0 unless named here. b of 27 and 28 is the first clause of a weighted threshold that is not
  * satisfied, counted from 1; 0 where there is none to name, since the threshold is a number or has no clauses. 27 speaks of the

@@ -24,21 +24,21 @@ length_of s n e = e
 
 -- ---- a threshold alone
 module _ (s : List ℕ) (keys : ℕ) (x : T.Marked) (is : marked_is x ≡ marks_at s 0) where
-  threshold-read : (y : T.Marked) → x ≡ y → attainable_in s keys ≡ attainable_read keys (bind (mapped (threshold_of s) (marked_is y)) (ended s))
+  threshold_read : (y : T.Marked) → x ≡ y → attainable_in s keys ≡ attainable_read keys (bind (mapped (threshold_of s) (marked_is y)) (ended s))
   unfolding attainable_in threshold_alone
-  threshold-read y told = rw (← threshold_values s 0, ← is, told)
+  threshold_read y told = rw (← threshold_values s 0, ← is, told)
 
   pub attainable_unread : (n : ℕ) → x ≡ T.TheVariants.No n → attained n false ≡ attainable_in s keys
-  attainable_unread n told = sym (threshold-read _ told)
+  attainable_unread n told = sym (threshold_read _ told)
 
   module _ (m : Marks) (end : ℕ) (told : x ≡ T.TheVariants.Of m end) where
     pub attainable-over : (end ≡ length s → ⊥) → attained 3 false ≡ attainable_in s keys
     unfolding ended
-    attainable-over ne = rw (threshold-read _ told, ne_eqb end (length s) ne)
+    attainable-over ne = rw (threshold_read _ told, ne_eqb end (length s) ne)
 
     pub attainable_whole : (t : Threshold) → end ≡ length s → t ≡ threshold_of s m → attainable_by t keys ≡ attainable_in s keys
     unfolding ended
-    attainable_whole t e et = rw (threshold-read _ told, eq-eqb end (length s) e, et)
+    attainable_whole t e et = rw (threshold_read _ told, eq-eqb end (length s) e, et)
 
 -- ---- what is told
 module _ (r : ℕ) (d : List ℕ) (x : Answer) (er : r ≡ x.number) (ed : d ≡ words x) where
