@@ -8,8 +8,7 @@ use lib.Dec.{eqb}
 use lib.ListN.{length, get_or}
 use borrow.Author.Tests.{eqb-true, eq-eqb}
 use Rattle.lists.specs.Lists.{pick, both, either, any, first_from, same_numbers, is_at}
-use Rattle.lists.specs.declared.Found.{Found}
-use Rattle.lists.specs.declared.Found.TheVariants.{At, Nothing}
+use Rattle.std.specs.Prelude.{Option, Some, None}
 
 -- true is not false
 pub clash : {A : Type 0} → true ≡ false → A
@@ -42,7 +41,7 @@ picks true false z e = absurd (omega arith)
 picks false f z e = absurd (omega arith)
 
 -- a search ends at a place exactly where some element has the property
-pick_is : (b : Bool) (k : ℕ) (f : Found) (m : Bool) → is_at f ≡ m → is_at (pick b (At k) f) ≡ either b m
+pick_is : (b : Bool) (k : ℕ) (f : Option ℕ) (m : Bool) → is_at f ≡ m → is_at (pick b (Some k) f) ≡ either b m
 pick_is true k f m e = refl
 pick_is false k f m e = e
 
@@ -55,21 +54,21 @@ first_any f k (x ∷ xs) = pick_is (f x) k (first_from f (k + 1) xs) (any f xs) 
 abbrev pub FirstAt : {A : Type 0} → (A → Bool) → A → ℕ → List A → ℕ → Type 0
 FirstAt f d k xs n = (k ≤ n) × ((n < k + length xs) × ((f (get_or xs (n - k) d) ≡ true) × ((j : ℕ) → j < n - k → f (get_or xs j d) ≡ false)))
 
-abbrev place_of : Found → ℕ
-place_of (At k) = k
-place_of Nothing = 0
+abbrev place_of : Option ℕ → ℕ
+place_of (Some k) = k
+place_of None = 0
 
 none_up_to : {A : Type 0} (f : A → Bool) (d x : A) (xs : List A) (m : ℕ) → f x ≡ false → ((j : ℕ) → j < m → f (get_or xs j d) ≡ false)
     → (j : ℕ) → j < suc m → f (get_or (x ∷ xs) j d) ≡ false
 none_up_to f d x xs m t ih zero h = t
 none_up_to f d x xs m t ih (suc j) h = ih j (omega (arith, h))
 
-pub first_at : {A : Type 0} (f : A → Bool) (d : A) (k : ℕ) (xs : List A) (n : ℕ) → first_from f k xs ≡ At n → FirstAt f d k xs n
+pub first_at : {A : Type 0} (f : A → Bool) (d : A) (k : ℕ) (xs : List A) (n : ℕ) → first_from f k xs ≡ Some n → FirstAt f d k xs n
 unfolding first_from
 first_at f d k [] n e = clash (sym (ap is_at e))
 first_at f d k (x ∷ xs) n e = by_test (λ g. first_at f d (k + 1) xs n g) (f x) refl e
   where
-    by_test : (first_from f (k + 1) xs ≡ At n → FirstAt f d (k + 1) xs n) → (b : Bool) → f x ≡ b → pick b (At k) (first_from f (k + 1) xs) ≡ At n
+    by_test : (first_from f (k + 1) xs ≡ Some n → FirstAt f d (k + 1) xs n) → (b : Bool) → f x ≡ b → pick b (Some k) (first_from f (k + 1) xs) ≡ Some n
         → FirstAt f d k (x ∷ xs) n
     by_test later true t g =
         let m : k ≡ n = ap place_of g in

@@ -13,7 +13,7 @@ use lib.Seq.{drop-cons, get_or-take}
 use lib.Dec.{eqb}
 use borrow.Author.Tests.{eq-eqb, ne_eqb}
 use Rattle.lists.specs.Lists.{both, any, all, filter, first_from, same_numbers}
-use Rattle.lists.specs.declared.Found.TheVariants.{At, Nothing}
+use Rattle.std.specs.Prelude.{Some, None}
 
 -- an element that is there is the same under any default
 pub any_default : {A : Type 0} (d e : A) (xs : List A) (i : ℕ) → i < length xs → get_or xs i d ≡ get_or xs i e
@@ -54,7 +54,7 @@ module _ {A : Type 0} (f : A → Bool) (xs : List A) (x : A) (i : ℕ) (e : drop
   unfolding all
   all-next h = rw (e, h)
 
-  pub first_here : f x ≡ true → first_from f i (drop i xs) ≡ At i
+  pub first_here : f x ≡ true → first_from f i (drop i xs) ≡ Some i
   unfolding first_from
   first_here h = rw (e, h)
 
@@ -79,7 +79,7 @@ module _ {A : Type 0} (f : A → Bool) (xs : List A) (i : ℕ) (h : length xs �
   unfolding all
   all_end = rw (drop_of_length-le xs h)
 
-  pub first-end : first_from f i (drop i xs) ≡ Nothing
+  pub first-end : first_from f i (drop i xs) ≡ None
   unfolding first_from
   first-end = rw (drop_of_length-le xs h)
 

@@ -1,7 +1,5 @@
 -- Words that the definitions of every crate are written in: choices, searches along a list, sets of places, padding.
-use Rattle.std.specs.Prelude.{ℕ, ◌+◌, ◌-◌, List, [], ◌∷◌, ◌++◌, Bool, true, false, eqb, length, replicate}
-use Rattle.lists.specs.declared.Found.{Found}
-use Rattle.lists.specs.declared.Found.TheVariants.{At, Nothing}
+use Rattle.std.specs.Prelude.{ℕ, ◌+◌, ◌-◌, List, [], ◌∷◌, ◌++◌, Bool, true, false, Option, Some, None, eqb, length, replicate}
 
 -- the first where the test holds, else the second
 abbrev pub pick : {A : Type 0} → Bool → A → A → A
@@ -30,13 +28,13 @@ filter f [] = []
 filter f (x ∷ xs) = pick (f x) (x ∷ filter f xs) (filter f xs)
 
 -- the place of the first element with the property, the first place being k
-unfoldable pub first_from : {A : Type 0} → (A → Bool) → ℕ → List A → Found
-first_from f k [] = Nothing
-first_from f k (x ∷ xs) = pick (f x) (At k) (first_from f (k + 1) xs)
+unfoldable pub first_from : {A : Type 0} → (A → Bool) → ℕ → List A → Option ℕ
+first_from f k [] = None
+first_from f k (x ∷ xs) = pick (f x) (Some k) (first_from f (k + 1) xs)
 
-abbrev pub is_at : Found → Bool
-is_at (At k) = true
-is_at Nothing = false
+abbrev pub is_at : Option ℕ → Bool
+is_at (Some k) = true
+is_at None = false
 
 -- two lists of numbers are the same
 unfoldable pub same_numbers : List ℕ → List ℕ → Bool

@@ -1,8 +1,2 @@
-// Where a search ended. The definitions and laws of lists that every crate above uses stand beside this file.
+// Words that the definitions of every crate above are written in, and the laws of lists. There is no code here.
 #![tactic(auto)]
-
-#[derive(Clone, Copy)]
-pub enum Found {
-    At(usize),
-    Nothing,
-}

@@ -9,7 +9,7 @@ use borrow.Author.Tests.{lt-ltb, le-ltb, eqb-true, ltb-true, ltb-false}
 use Rattle.lists.specs.Lists.{pick}
 use Rattle.lists.proofs.Facts.{both_true}
 use Rattle.number.specs.declared.Number.{Number}
-use Rattle.number.specs.declared.Successor.TheVariants.{Of, Last}
+use Rattle.std.specs.Prelude.{Some, None}
 use Rattle.number.specs.Number.{value, words, same_number, next_of}
 
 made : {a b c d : ℕ} → a ≡ c → b ≡ d → ◌≡◌ {A = Number} (record { high = a; low = b }) (record { high = c; low = d })
@@ -26,20 +26,20 @@ square : (base h l : ℕ) → h < base → l < base → h * base + l < base * ba
 square base h l p q = omega (arith, mul-le-mul_right base p)
 
 -- the number after, by its words, where it has any
-after : (n : Number) (h l : ℕ) → h < 2 ^ 64 → l < 2 ^ 64 → value n + 1 ≡ h * 2 ^ 64 + l → Of (record { high = h; low = l }) ≡ next_of n
+after : (n : Number) (h l : ℕ) → h < 2 ^ 64 → l < 2 ^ 64 → value n + 1 ≡ h * 2 ^ 64 + l → Some (record { high = h; low = l }) ≡ next_of n
 unfolding next_of
 after n h l p q e = rw (e, lt-ltb (h * 2 ^ 64 + l) (2 ^ 128) (square (2 ^ 64) h l p q), words_of h l q)
 
-pub next-within : (n : Number) → n.low + 1 < 2 ^ 64 → n.high < 2 ^ 64 → Of (record { high = n.high; low = n.low + 1 }) ≡ next_of n
+pub next-within : (n : Number) → n.low + 1 < 2 ^ 64 → n.high < 2 ^ 64 → Some (record { high = n.high; low = n.low + 1 }) ≡ next_of n
 next-within n l h = after n n.high (n.low + 1) h l (omega arith)
 
-pub next_carry : (n : Number) → n.low + 1 ≡ 2 ^ 64 → n.high + 1 < 2 ^ 64 → Of (record { high = n.high + 1; low = 0 }) ≡ next_of n
+pub next_carry : (n : Number) → n.low + 1 ≡ 2 ^ 64 → n.high + 1 < 2 ^ 64 → Some (record { high = n.high + 1; low = 0 }) ≡ next_of n
 next_carry n l h = after n (n.high + 1) 0 h (omega arith) (omega arith)
 
 last : (base h l : ℕ) → l + 1 ≡ base → h + 1 ≡ base → base * base ≤ h * base + l + 1
 last base h l p q = let e : (h + 1) * base ≡ base * base = ap (λ (x : ℕ). x * base) q in omega (arith, e)
 
-pub next-none : (n : Number) → n.low + 1 ≡ 2 ^ 64 → n.high + 1 ≡ 2 ^ 64 → Last ≡ next_of n
+pub next-none : (n : Number) → n.low + 1 ≡ 2 ^ 64 → n.high + 1 ≡ 2 ^ 64 → None ≡ next_of n
 unfolding next_of
 next-none n l h = rw (le-ltb (value n + 1) (2 ^ 128) (last (2 ^ 64) n.high n.low l h))
 
@@ -69,10 +69,10 @@ module _ (a b : Number) where
 value-words : (v : ℕ) → value (words v) ≡ v
 value-words v = div-add-mod' v (2 ^ 64)
 
-pub next-value : (n m : Number) → next_of n ≡ Of m → value m ≡ value n + 1
+pub next-value : (n m : Number) → next_of n ≡ Some m → value m ≡ value n + 1
 unfolding next_of
 next-value n m e = by_test (ltb (value n + 1) (2 ^ 128)) e
   where
-    by_test : (t : Bool) → pick t (Of (words (value n + 1))) Last ≡ Of m → value m ≡ value n + 1
+    by_test : (t : Bool) → pick t (Some (words (value n + 1))) None ≡ Some m → value m ≡ value n + 1
     by_test true p = let q : words (value n + 1) ≡ m = cc in ap value (sym q) ∙ value-words (value n + 1)
     by_test false p = let z : ◌≡◌ {A = ℕ} 0 1 = cc in absurd (omega arith)

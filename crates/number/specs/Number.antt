@@ -1,9 +1,7 @@
 -- Sequence numbers are 0 to 2^128-1, as a high and a low 64-bit word.
-use Rattle.std.specs.Prelude.{ℕ, ◌+◌, ◌*◌, ◌/◌, ◌%◌, ◌^◌, Bool, eqb, ltb}
+use Rattle.std.specs.Prelude.{ℕ, ◌+◌, ◌*◌, ◌/◌, ◌%◌, ◌^◌, Bool, eqb, ltb, Option, Some, None}
 use Rattle.lists.specs.Lists.{pick, both}
 use Rattle.number.specs.declared.Number.{Number}
-use Rattle.number.specs.declared.Successor.{Successor}
-use Rattle.number.specs.declared.Successor.TheVariants.{Of, Last}
 
 -- the number that two words stand for, and the words of a number
 abbrev pub value : Number → ℕ
@@ -21,5 +19,5 @@ unfoldable pub same_number : Number → Number → Bool
 same_number a b = both (eqb a.high b.high) (eqb a.low b.low)
 
 -- "2^128-1 has no next number"
-unfoldable pub next_of : Number → Successor
-next_of n = pick (ltb (value n + 1) (2 ^ 128)) (Of (words (value n + 1))) Last
+unfoldable pub next_of : Number → Option Number
+next_of n = pick (ltb (value n + 1) (2 ^ 128)) (Some (words (value n + 1))) None

@@ -4,16 +4,11 @@
 ghost use Rattle.std.specs.Prelude.{◌≡◌, ltb};
 ghost use Rattle.number.specs.Number.{value, small, same_number, next_of};
 
-#[derive(Clone, Copy)]
+// The higher word first: so the derived order is that of the numbers.
+#[derive(Clone, Copy, PartialEq, Eq, PartialOrd, Ord)]
 pub struct Number {
     pub high: u64,
     pub low: u64,
-}
-
-#[derive(Clone, Copy)]
-pub enum Successor {
-    Of(Number),
-    Last,
 }
 
 pub fn from_u64(n: u64) -> Number
@@ -22,43 +17,26 @@ pub fn from_u64(n: u64) -> Number
     Number { high: 0, low: n }
 }
 
+#[tactic(auto, unfolding(crate::specs::Number::same_number))]
 pub fn same(a: Number, b: Number) -> bool
     ensures { result ≡ same_number a b }
 {
-    if a.high == b.high {
-        a.low == b.low
-    } else {
-        false
-    }
+    a == b
 }
 
 pub fn below(a: Number, b: Number) -> bool
     ensures { result ≡ ltb (value a) (value b) }
 {
-    if a.high == b.high {
-        a.low < b.low
-    } else {
-        a.high < b.high
-    }
+    a < b
 }
 
 // The number after, or none after 2^128-1.
-pub fn next(n: Number) -> Successor
+pub fn next(n: Number) -> Option<Number>
     ensures { result ≡ next_of n }
 {
-    let high = n.high;
-    let low = n.low;
-    if low < 0xffff_ffff_ffff_ffff {
-        return Successor::Of(Number {
-            high: high,
-            low: low + 1,
-        });
+    if let Some(low) = n.low.checked_add(1) {
+        return Some(Number { high: n.high, low });
     }
-    if high < 0xffff_ffff_ffff_ffff {
-        return Successor::Of(Number {
-            high: high + 1,
-            low: 0,
-        });
-    }
-    Successor::Last
+    let high = n.high.checked_add(1)?;
+    Some(Number { high, low: 0 })
 }

@@ -1,16 +1,13 @@
 use native.Mathlib.Omega.{arith}
+use Rattle.std.proofs.Common.{refl}
 use Rattle.number.proofs.Laws.{next-within, next_carry, next-none}
-use borrow.Author.Rules.{rules}
 use Rattle.number.proofs.next.Goals as goal
 
--- src/lib.rt:49:9
-pub returns-then-low-lt18446744073709551615 : goal.returns-then-low-lt18446744073709551615
-returns-then-low-lt18446744073709551615 c = next-within c.args.n (omega arith) (search rules)
+pub returns-in-Some : goal.returns-in-Some
+returns-in-Some c = let p = c.in-Some.ensures in rw p.1 (next-within c.args.n p.0 (omega arith))
 
--- src/lib.rt:55:9
-pub returns-then-high-lt18446744073709551615 : goal.returns-then-high-lt18446744073709551615
-returns-then-high-lt18446744073709551615 c = next_carry c.args.n (omega arith) (omega arith)
+pub returns-in_err-high : goal.returns-in_err-high
+returns-in_err-high c = rw c.from_residual.ensures (next-none c.args.n (omega (arith, c.checked_add.ensures)) (omega (arith, c.in_err-high.ensures)))
 
--- src/lib.rt:43:1
 pub returns : goal.returns
-returns c = next-none c.args.n (omega arith) (omega arith)
+returns c = let p = c.in_ok-high.ensures in rw p.1 (next_carry c.args.n (omega (arith, c.checked_add.ensures)) p.0)
