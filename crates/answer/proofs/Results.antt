@@ -1,16 +1,10 @@
--- A check that answers with a result: what follows it is asked only where it passes.
-use mathlib.Core.Path.{◌≡◌, refl, sym, ◌∙◌, ap}
-use mathlib.Core.List.{List, ◌∷◌}
+-- No refusal passes, so that behind a `?` the checks before it have passed. Assumes nothing.
+use mathlib.Core.Path.{◌≡◌, refl}
 use mathlib.Core.Bool.{false}
-use Prim.Native.Nat.{ℕ}
-use native.Mathlib.Omega.{arith}
-use Rattle.std.specs.Prelude.{Result, Ok, Err}
-use Rattle.answer.specs.declared.Answer.{Answer}
 use Rattle.answer.specs.declared.Refusal.{Refusal}
-use Rattle.answer.specs.declared.Refusal.TheVariants.{Truncated, UnknownMark, BadField, TooMany, StateHeld, EvidenceRequired, DelegatorUnknown, NotInception, DuplicateInception, NonTransferableState, NonZeroGenesisSn, BasicKeyCount, BasicThreshold, BasicKeyMismatch, NonTransferableNextKeys, NonTransferableWitnesses, NonTransferableAnchors, Duplicate, TransferableWitness, CutAddOverlap, RemovalNotCurrent, AdditionAlreadyPresent, BelowMinimum, ExceedsKeyCount, EmptyClauseList, EmptyClause, MissingSignatures, PriorNextThresholdUnsatisfied, WitnessThresholdZeroWithWitnesses, WitnessThresholdExceeded, InsufficientWitnessReceipts, IdentifierMismatch, SequenceNumberOverflow, OutOfOrder, PriorDigestMismatch, InteractionOnEstablishmentOnly, TooManyWitnesses, Overflow, OutOfRange, NoRoom}
-use Rattle.answer.specs.Answer.{accepted, passes, first_refusal}
-use Rattle.answer.specs.Refusal.{answer_of, answered}
-use Rattle.answer.proofs.Laws.{here, past}
+use Rattle.answer.specs.declared.Refusal.TheVariants.{Truncated, UnknownMark, BadField, TooMany, StateHeld, EvidenceRequired, DelegatorUnknown, NotInception, DuplicateInception, NonTransferableState, NonZeroGenesisSn, BasicKeyCount, BasicThreshold, BasicKeyMismatch, NonTransferableNextKeys, NonTransferableWitnesses, NonTransferableAnchors, Duplicate, TransferableWitness, CutAddOverlap, RemovalNotCurrent, AdditionAlreadyPresent, BelowMinimum, ExceedsKeyCount, EmptyClauseList, EmptyClause, MissingSignatures, PriorNextThresholdUnsatisfied, NonTransferableCommitsNextKeys, WitnessThresholdZeroWithWitnesses, WitnessThresholdExceeded, InsufficientWitnessReceipts, IdentifierMismatch, SequenceNumberOverflow, OutOfOrder, PriorDigestMismatch, InteractionOnEstablishmentOnly, TooManyWitnesses, Overflow, OutOfRange, NoRoom}
+use Rattle.answer.specs.Answer.{passes}
+use Rattle.answer.specs.Refusal.{answer_of}
 
 -- no refusal passes
 pub refuses : (r : Refusal) → passes (answer_of r) ≡ false
@@ -40,8 +34,9 @@ refuses BelowMinimum = refl
 refuses (ExceedsKeyCount required keys) = refl
 refuses EmptyClauseList = refl
 refuses EmptyClause = refl
-refuses (MissingSignatures counted clause) = refl
-refuses (PriorNextThresholdUnsatisfied counted clause) = refl
+refuses (MissingSignatures few) = refl
+refuses (PriorNextThresholdUnsatisfied few) = refl
+refuses NonTransferableCommitsNextKeys = refl
 refuses (WitnessThresholdZeroWithWitnesses witnesses) = refl
 refuses (WitnessThresholdExceeded toad witnesses) = refl
 refuses (InsufficientWitnessReceipts valid required) = refl

@@ -4,9 +4,13 @@ use Rattle.std.specs.Prelude.{Result, Ok, Err, ℕ}
 use Rattle.number.specs.declared.Number.{Number}
 use Rattle.number.specs.Number.{small}
 use Rattle.answer.specs.declared.Answer.{Answer}
+use Rattle.answer.specs.declared.TooFew.{TooFew}
 use Rattle.answer.specs.declared.Refusal.{Refusal}
-use Rattle.answer.specs.declared.Refusal.TheVariants.{Truncated, UnknownMark, BadField, TooMany, StateHeld, EvidenceRequired, DelegatorUnknown, NotInception, DuplicateInception, NonTransferableState, NonZeroGenesisSn, BasicKeyCount, BasicThreshold, BasicKeyMismatch, NonTransferableNextKeys, NonTransferableWitnesses, NonTransferableAnchors, Duplicate, TransferableWitness, CutAddOverlap, RemovalNotCurrent, AdditionAlreadyPresent, BelowMinimum, ExceedsKeyCount, EmptyClauseList, EmptyClause, MissingSignatures, PriorNextThresholdUnsatisfied, WitnessThresholdZeroWithWitnesses, WitnessThresholdExceeded, InsufficientWitnessReceipts, IdentifierMismatch, SequenceNumberOverflow, OutOfOrder, PriorDigestMismatch, InteractionOnEstablishmentOnly, TooManyWitnesses, Overflow, OutOfRange, NoRoom}
+use Rattle.answer.specs.declared.Refusal.TheVariants.{Truncated, UnknownMark, BadField, TooMany, StateHeld, EvidenceRequired, DelegatorUnknown, NotInception, DuplicateInception, NonTransferableState, NonZeroGenesisSn, BasicKeyCount, BasicThreshold, BasicKeyMismatch, NonTransferableNextKeys, NonTransferableWitnesses, NonTransferableAnchors, Duplicate, TransferableWitness, CutAddOverlap, RemovalNotCurrent, AdditionAlreadyPresent, BelowMinimum, ExceedsKeyCount, EmptyClauseList, EmptyClause, MissingSignatures, PriorNextThresholdUnsatisfied, NonTransferableCommitsNextKeys, WitnessThresholdZeroWithWitnesses, WitnessThresholdExceeded, InsufficientWitnessReceipts, IdentifierMismatch, SequenceNumberOverflow, OutOfOrder, PriorDigestMismatch, InteractionOnEstablishmentOnly, TooManyWitnesses, Overflow, OutOfRange, NoRoom}
 use Rattle.answer.specs.Answer.{refused, accepted}
+
+abbrev pub too_few : ℕ → TooFew → Answer
+too_few which few = refused which few.counted few.clause
 
 -- "Details a and b are 0 unless named; the first named is a."
 abbrev pub answer_of : Refusal → Answer
@@ -36,8 +40,9 @@ answer_of BelowMinimum = refused 23 0 0
 answer_of (ExceedsKeyCount required keys) = refused 24 required keys
 answer_of EmptyClauseList = refused 25 0 0
 answer_of EmptyClause = refused 26 0 0
-answer_of (MissingSignatures counted clause) = refused 27 counted clause
-answer_of (PriorNextThresholdUnsatisfied counted clause) = refused 28 counted clause
+answer_of (MissingSignatures few) = too_few 27 few
+answer_of (PriorNextThresholdUnsatisfied few) = too_few 28 few
+answer_of NonTransferableCommitsNextKeys = refused 29 0 0
 answer_of (WitnessThresholdZeroWithWitnesses witnesses) = refused 30 witnesses 0
 answer_of (WitnessThresholdExceeded toad witnesses) = refused 31 toad witnesses
 answer_of (InsufficientWitnessReceipts valid required) = refused 32 valid required
@@ -50,6 +55,11 @@ answer_of (TooManyWitnesses count) = refused 38 count 0
 answer_of (Overflow witnesses) = refused 39 witnesses 0
 answer_of (OutOfRange toad witnesses) = refused 40 toad witnesses
 answer_of (NoRoom needed) = refused 41 needed 0
+
+-- a count against a threshold, as the answer with this number
+abbrev pub counted_as : ℕ → Result (Unit {0}) TooFew → Answer
+counted_as which (Ok done) = accepted
+counted_as which (Err few) = too_few which few
 
 -- what a check answers: accepted, or its refusal
 abbrev pub answered : Result (Unit {0}) Refusal → Answer

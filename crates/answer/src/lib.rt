@@ -14,7 +14,14 @@ pub struct Answer {
     pub b: Number,
 }
 
-// Every refusal of document 01's table, in its order, but 29, which never comes (crate reserved).
+// How many places counted, and the first clause that is short, counted from 1, or 0 where there is none to name.
+#[derive(Clone, Copy, PartialEq, Eq)]
+pub struct TooFew {
+    pub counted: u32,
+    pub clause: usize,
+}
+
+// Every refusal of document 01's table, in its order. 29 is reserved: no check gives it (crate reserved).
 #[derive(Clone, Copy)]
 pub enum Refusal {
     Truncated,
@@ -44,9 +51,9 @@ pub enum Refusal {
     ExceedsKeyCount { required: u64, keys: u64 },
     EmptyClauseList,
     EmptyClause,
-    // How many places counted, and the first clause that is short, or 0 where there is none to name.
-    MissingSignatures { counted: u32, clause: usize },
-    PriorNextThresholdUnsatisfied { counted: u32, clause: usize },
+    MissingSignatures(TooFew),
+    PriorNextThresholdUnsatisfied(TooFew),
+    NonTransferableCommitsNextKeys,
     WitnessThresholdZeroWithWitnesses { witnesses: u64 },
     WitnessThresholdExceeded { toad: u32, witnesses: u64 },
     InsufficientWitnessReceipts { valid: u32, required: u32 },
@@ -113,11 +120,24 @@ impl From<Refusal> for Answer {
             Refusal::ExceedsKeyCount { required, keys } => refuse(24, required, keys),
             Refusal::EmptyClauseList => refuse(25, 0, 0),
             Refusal::EmptyClause => refuse(26, 0, 0),
-            Refusal::MissingSignatures { counted, clause } => refuse(27, counted as u64, clause as u64),
-            Refusal::PriorNextThresholdUnsatisfied { counted, clause } => refuse(28, counted as u64, clause as u64),
+            Refusal::MissingSignatures(few) => refuse(27, few.counted as u64, few.clause as u64),
+            Refusal::PriorNextThresholdUnsatisfied(few) => refuse(
+                28,
+                few.counted as u64,
+                few.clause as u64,
+            ),
+            Refusal::NonTransferableCommitsNextKeys => refuse(29, 0, 0),
             Refusal::WitnessThresholdZeroWithWitnesses { witnesses } => refuse(30, witnesses, 0),
-            Refusal::WitnessThresholdExceeded { toad, witnesses } => refuse(31, toad as u64, witnesses),
-            Refusal::InsufficientWitnessReceipts { valid, required } => refuse(32, valid as u64, required as u64),
+            Refusal::WitnessThresholdExceeded { toad, witnesses } => refuse(
+                31,
+                toad as u64,
+                witnesses,
+            ),
+            Refusal::InsufficientWitnessReceipts { valid, required } => refuse(
+                32,
+                valid as u64,
+                required as u64,
+            ),
             Refusal::IdentifierMismatch => refuse(33, 0, 0),
             Refusal::SequenceNumberOverflow => refuse(34, 0, 0),
             Refusal::OutOfOrder { expected, actual } => Answer {

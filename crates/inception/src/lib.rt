@@ -4,10 +4,11 @@
 ghost use Rattle.std.specs.Prelude.{◌≡◌, eqb};
 ghost use Rattle.lists.specs.Lists.{both};
 ghost use Rattle.answer.specs.Answer.{first_refusal};
+ghost use Rattle.answer.specs.Refusal.{answered};
 ghost use Rattle.threshold.specs.Threshold.{is_simple};
 ghost use Rattle.inception.specs.Identity.{sole_key, commits_nothing, identity};
 
-use answer::Answer;
+use answer::Refusal;
 use item::Item;
 use items::Items;
 use threshold::Threshold;
@@ -15,45 +16,42 @@ use threshold::Threshold;
 fn is_simple_one(t: Threshold) -> bool
     ensures { result ≡ both (is_simple t) (eqb t.simple 1) }
 {
-    if t.tag != 0 {
-        return false;
-    }
-    t.simple == 1
+    t.tag == 0 && t.simple == 1
 }
 
-fn sole_key(prefix: Item, keys: Items, t: Threshold) -> Answer
-    ensures { result ≡ first_refusal (sole_key prefix keys t) }
+#[tactic(auto, unfolding(answer::specs::Answer::first_refusal))]
+fn sole_key(prefix: Item, keys: Items, t: Threshold) -> Result<(), Refusal>
+    ensures { answered result ≡ first_refusal (sole_key prefix keys t) }
 {
-    let n = keys.count;
-    let places = keys.at;
-    if n != 1 {
-        return answer::refuse(12, n as u64, 0);
+    if keys.count != 1 {
+        return Err(Refusal::BasicKeyCount { keys: keys.count });
     }
     if !is_simple_one(t) {
-        return answer::refuse(13, 0, 0);
+        return Err(Refusal::BasicThreshold);
     }
-    let key = places[0];
-    if !item::same(prefix, key) {
-        return answer::refuse(14, 0, 0);
+    if !item::same(prefix, keys.at[0]) {
+        return Err(Refusal::BasicKeyMismatch);
     }
-    answer::accept()
+    Ok(())
 }
 
-fn commits_nothing(next: usize, witnesses: usize, anchors: u32) -> Answer
-    ensures { result ≡ first_refusal (commits_nothing next witnesses anchors) }
+#[tactic(auto, unfolding(answer::specs::Answer::first_refusal))]
+fn commits_nothing(next: usize, witnesses: usize, anchors: u32) -> Result<(), Refusal>
+    ensures { answered result ≡ first_refusal (commits_nothing next witnesses anchors) }
 {
     if next != 0 {
-        return answer::refuse(15, 0, 0);
+        return Err(Refusal::NonTransferableNextKeys);
     }
     if witnesses != 0 {
-        return answer::refuse(16, 0, 0);
+        return Err(Refusal::NonTransferableWitnesses);
     }
     if anchors != 0 {
-        return answer::refuse(17, 0, 0);
+        return Err(Refusal::NonTransferableAnchors);
     }
-    answer::accept()
+    Ok(())
 }
 
+#[tactic(auto, using(answer::proofs::Results::refuses), unfolding(answer::specs::Answer::first_refusal, crate::specs::Identity::identity))]
 pub fn check_identity(
     prefix: Item,
     keys: Items,
@@ -61,19 +59,16 @@ pub fn check_identity(
     next: usize,
     witnesses: usize,
     anchors: u32,
-) -> Answer
-    ensures { result ≡ identity prefix keys t next witnesses anchors }
+) -> Result<(), Refusal>
+    ensures { answered result ≡ identity prefix keys t next witnesses anchors }
 {
     let code = prefix.code;
     if !item::is_basic(code) {
-        return answer::accept();
+        return Ok(());
     }
-    let sole = sole_key(prefix, keys, t);
-    if sole.number != 0 {
-        return sole;
-    }
+    sole_key(prefix, keys, t)?;
     if item::is_transferable(code) {
-        return answer::accept();
+        return Ok(());
     }
     commits_nothing(next, witnesses, anchors)
 }

@@ -7,7 +7,7 @@ ghost use Rattle.item.specs.Item.{item_fits, is_zero, same_item};
 ghost use Rattle.items.specs.Items.{listed, packed, shape_of};
 
 use item::{Item, Kind};
-use lists::Found;
+
 
 #[derive(Clone, Copy)]
 pub struct Items {
@@ -25,7 +25,7 @@ pub fn empty() -> Items
     }
 }
 
-pub fn find(l: Items, x: Item) -> Found
+pub fn find(l: Items, x: Item) -> Option<usize>
     ensures { result ≡ first_from (same_item x) 0 (listed l) }
 {
     let n = l.count;
@@ -33,15 +33,15 @@ pub fn find(l: Items, x: Item) -> Found
     let mut i: usize = 0;
     while i < 16 {
         if n <= i {
-            return Found::Nothing;
+            return None;
         }
         let y = places[i];
         if item::same(x, y) {
-            return Found::At(i);
+            return Some(i);
         }
         i += 1;
     }
-    Found::Nothing
+    None
 }
 
 fn used_fit(l: Items, kind: Kind) -> bool

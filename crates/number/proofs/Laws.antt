@@ -30,8 +30,8 @@ after : (n : Number) (h l : ℕ) → h < 2 ^ 64 → l < 2 ^ 64 → value n + 1 �
 unfolding next_of
 after n h l p q e = rw (e, lt-ltb (h * 2 ^ 64 + l) (2 ^ 128) (square (2 ^ 64) h l p q), words_of h l q)
 
-pub next-within : (n : Number) → n.low + 1 < 2 ^ 64 → n.high < 2 ^ 64 → Some (record { high = n.high; low = n.low + 1 }) ≡ next_of n
-next-within n l h = after n n.high (n.low + 1) h l (omega arith)
+pub next_within : (n : Number) → n.low + 1 < 2 ^ 64 → n.high < 2 ^ 64 → Some (record { high = n.high; low = n.low + 1 }) ≡ next_of n
+next_within n l h = after n n.high (n.low + 1) h l (omega arith)
 
 pub next_carry : (n : Number) → n.low + 1 ≡ 2 ^ 64 → n.high + 1 < 2 ^ 64 → Some (record { high = n.high + 1; low = 0 }) ≡ next_of n
 next_carry n l h = after n (n.high + 1) 0 h (omega arith) (omega arith)
@@ -39,9 +39,9 @@ next_carry n l h = after n (n.high + 1) 0 h (omega arith) (omega arith)
 last : (base h l : ℕ) → l + 1 ≡ base → h + 1 ≡ base → base * base ≤ h * base + l + 1
 last base h l p q = let e : (h + 1) * base ≡ base * base = ap (λ (x : ℕ). x * base) q in omega (arith, e)
 
-pub next-none : (n : Number) → n.low + 1 ≡ 2 ^ 64 → n.high + 1 ≡ 2 ^ 64 → None ≡ next_of n
+pub next_none : (n : Number) → n.low + 1 ≡ 2 ^ 64 → n.high + 1 ≡ 2 ^ 64 → None ≡ next_of n
 unfolding next_of
-next-none n l h = rw (le-ltb (value n + 1) (2 ^ 128) (last (2 ^ 64) n.high n.low l h))
+next_none n l h = rw (le-ltb (value n + 1) (2 ^ 128) (last (2 ^ 64) n.high n.low l h))
 
 -- equal in both words is equal
 pub same_number_lem : (a b : Number) → same_number a b ≡ true → a ≡ b

@@ -31,12 +31,13 @@ pub fn below(a: Number, b: Number) -> bool
 }
 
 // The number after, or none after 2^128-1.
+#[tactic(auto, using(crate::proofs::Laws::next_within, crate::proofs::Laws::next_carry, crate::proofs::Laws::next_none))]
 pub fn next(n: Number) -> Option<Number>
     ensures { result ≡ next_of n }
 {
-    if let Some(low) = n.low.checked_add(1) {
-        return Some(Number { high: n.high, low });
+    match (n.low.checked_add(1), n.high.checked_add(1)) {
+        (Some(low), _) => Some(Number { high: n.high, low }),
+        (None, Some(high)) => Some(Number { high, low: 0 }),
+        (None, None) => None,
     }
-    let high = n.high.checked_add(1)?;
-    Some(Number { high, low: 0 })
 }

@@ -1,8 +1,6 @@
 -- Thresholds, by document 01: "A threshold is tag 0 and a u64, or tag 1, a clause count byte, a size byte per clause, then
 -- the weights as numerator u64 and denominator u64."
-use Rattle.std.specs.Prelude.{ℕ, ◌+◌, List, [], ◌∷◌, Bool, true, false, not, eqb, leb, length, take, drop}
-use Rattle.lists.specs.declared.Found.{Found}
-use Rattle.lists.specs.declared.Found.TheVariants.{At, Nothing}
+use Rattle.std.specs.Prelude.{ℕ, ◌+◌, List, [], ◌∷◌, Bool, true, false, not, Option, Some, None, eqb, leb, length, take, drop}
 use Rattle.lists.specs.Lists.{pick, both, any, all, first_from}
 use Rattle.answer.specs.declared.Answer.{Answer}
 use Rattle.answer.specs.Answer.{refused, accepted, first_refusal}
@@ -82,9 +80,9 @@ clauses_met signed base (c ∷ cs) = reaches_one (sum_from signed base no_sum c)
 
 -- ---- Document 02, request 2: "The threshold judgement shall answer with the first unsatisfied clause, counted from 1, or 0
 -- where there is none to name (satisfied, a simple threshold, no clauses, or a list not strictly rising)."
-abbrev pub short_at : Found → Judgement
-short_at (At k) = Short k
-short_at Nothing = Met
+abbrev pub short_at : Option ℕ → Judgement
+short_at (Some k) = Short k
+short_at None = Met
 
 -- the first clause has this number
 abbrev pub first_short : ℕ → List Bool → Judgement
