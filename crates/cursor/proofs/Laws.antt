@@ -7,18 +7,24 @@
 use mathlib.Core.Path.{◌≡◌, refl, sym, ap, ◌∙◌}
 use mathlib.Core.Bool.{Bool, true, false}
 use mathlib.Core.List.{List, ◌∷◌, ◌++◌, []}
-use Prim.Native.Nat.{ℕ, zero, suc, ◌+◌, ◌*◌, ◌^◌, ◌-◌, ◌≤◌, ◌<◌}
-use native.Mathlib.Nat.{pow-le-pow_right, pow-suc, zero-mul, suc-mul, add-zero, add_assoc, add_comm, add-sub_cancel_left}
+use Prim.Native.Nat.{ℕ, zero, suc, ◌+◌, ◌*◌, ◌-◌, ◌≤◌, ◌<◌}
+use native.Mathlib.Nat.{zero-mul, suc-mul, add-zero, add_assoc, add_comm}
 use native.Mathlib.Numerals.{add-one}
 use native.Mathlib.Omega.{arith}
-use lib.Dec.{lit<, leb, ltb}
+use lib.Dec.{leb, ltb}
 use lib.ListN.{length, take, drop, get_or, set, replicate, length-drop}
 use lib.Seq.{take-suc, get_or-drop}
+use denote.Ref.{Bor}
+use Rattle.std.specs.Array.{IsFirstChunk}
+use Rattle.std.specs.Prelude.{Option, Some, None, MatchOption, ◌⊎◌, slice_range}
+use Rattle.std.specs.Int.{w16, w32, w64, from_be_bytes}
+use Rattle.std.proofs.lemmas.List.{take_all}
 use borrow.Author.Tests.{le-leb, lt-leb, lt-ltb, le-ltb, leb-true, leb-false, ltb-true}
 use Rattle.lists.specs.Lists.{pick, padded}
 use Rattle.lists.proofs.Facts.{clash}
 use Rattle.lists.proofs.Padding.{padded_push}
-use Rattle.format.specs.Parse.{Parse, got, bad, bind, byte_at, be_from, num_at, many_at, list_at}
+use Rattle.format.specs.Parse.{Parse, got, bad, bind, byte_at, be_from, num_at, raw_at, many_at, list_at}
+use Rattle.cursor.specs.declared.Listing.{Listing}
 use Rattle.cursor.specs.Cursor.{raw_of}
 use Rattle.cursor.specs.Spans.{mapped, runs, span_at, list_of, many_of}
 
@@ -34,14 +40,42 @@ be_more s at i h =
     let k : i < length (drop at s) = simp length-drop (omega arith) in
     rw (add-one, take-suc (drop at s) i 0, get_or-drop) (be_snoc 0 (take i (drop at s)) (get_or s (at + i) 0))
 
--- a number below 256 ^ i with i < 8, and a byte after it
-pub room : (i v b : ℕ) → i < 8 → v < 256 ^ i → b < 256 → v * 256 + b < 2 ^ 64
-room i v b h k l =
-    let q : i ≤ 7 = omega arith in
-    let p : 256 ^ i ≤ 256 ^ 7 = pow-le-pow_right (lit< tt) q in omega arith
+-- a number by its bytes, as the library's words make it
+from_none : be_from 0 [] ≡ 0
+unfolding be_from
+from_none = refl
 
-pub grows : (i v b : ℕ) → v < 256 ^ i → b < 256 → v * 256 + b < 256 ^ (i + 1)
-grows i v b k l = rw (add-one, pow-suc) (omega arith)
+pub be_2 : (bs : List ℕ) → length bs ≡ 2 → from_be_bytes w16 bs ≡ be_from 0 bs
+be_2 bs e =
+    let e0 = be_more bs 0 0 (omega arith) in
+    let e1 = be_more bs 0 1 (omega arith) in
+    let w : be_from 0 (take 2 bs) ≡ be_from 0 bs = ap (be_from 0) (take_all 2 bs (omega arith)) in
+    let z : be_from 0 (take 0 bs) ≡ 0 = from_none in
+    omega (arith, e0, e1, w, z)
+
+pub be_4 : (bs : List ℕ) → length bs ≡ 4 → from_be_bytes w32 bs ≡ be_from 0 bs
+be_4 bs e =
+    let e0 = be_more bs 0 0 (omega arith) in
+    let e1 = be_more bs 0 1 (omega arith) in
+    let e2 = be_more bs 0 2 (omega arith) in
+    let e3 = be_more bs 0 3 (omega arith) in
+    let w : be_from 0 (take 4 bs) ≡ be_from 0 bs = ap (be_from 0) (take_all 4 bs (omega arith)) in
+    let z : be_from 0 (take 0 bs) ≡ 0 = from_none in
+    omega (arith, e0, e1, e2, e3, w, z)
+
+pub be_8 : (bs : List ℕ) → length bs ≡ 8 → from_be_bytes w64 bs ≡ be_from 0 bs
+be_8 bs e =
+    let e0 = be_more bs 0 0 (omega arith) in
+    let e1 = be_more bs 0 1 (omega arith) in
+    let e2 = be_more bs 0 2 (omega arith) in
+    let e3 = be_more bs 0 3 (omega arith) in
+    let e4 = be_more bs 0 4 (omega arith) in
+    let e5 = be_more bs 0 5 (omega arith) in
+    let e6 = be_more bs 0 6 (omega arith) in
+    let e7 = be_more bs 0 7 (omega arith) in
+    let w : be_from 0 (take 8 bs) ≡ be_from 0 bs = ap (be_from 0) (take_all 8 bs (omega arith)) in
+    let z : be_from 0 (take 0 bs) ≡ 0 = from_none in
+    omega (arith, e0, e1, e2, e3, e4, e5, e6, e7, w, z)
 
 module _ (w : ℕ) (s : List ℕ) (at : ℕ) where
   pub num_got : at + w ≤ length s → num_at w s at ≡ got (be_from 0 (take w (drop at s))) (at + w)
@@ -51,10 +85,6 @@ module _ (w : ℕ) (s : List ℕ) (at : ℕ) where
   pub num_short : length s < at + w → num_at w s at ≡ bad 3
   unfolding num_at
   num_short h = simp (lt-leb _ _ h)
-
-  -- what a loop that has read all w bytes holds
-  pub num_is : (v i : ℕ) → at + w ≤ length s → i ≡ w → v ≡ be_from 0 (take i (drop at s)) → got v (at + w) ≡ num_at w s at
-  num_is v i h e p = rw (num_got h, p, e)
 
 -- a number of two bytes, where it was read
 pub record Pair (s : List ℕ) (at v n : ℕ) : Type 0 where
@@ -101,6 +131,44 @@ module _ (s : List ℕ) (at : ℕ) where
       by_test true p q = clash (sym (ap is_got q))
       by_test false p q = leb-false (at + 2) (length s) p
 
+-- bytes as they stand, and the number that they make
+module _ (w : ℕ) (s : List ℕ) (at : ℕ) where
+  pub raw_had : at + w ≤ length s → got (take w (drop at s)) (at + w) ≡ raw_at w s at
+  unfolding raw_at
+  raw_had h = rw (le-leb _ _ h)
+
+  pub raw_missing : length s < at + w → bad 3 ≡ raw_at w s at
+  unfolding raw_at
+  raw_missing h = rw (lt-leb _ _ h)
+
+  -- the first w bytes of what stands from a place on
+  pub first_had : (rest : List ℕ) → rest ≡ drop at s → length rest + at ≡ length s → (r : Option (Bor (List ℕ)))
+      → MatchOption r (length rest < w) (λ y. IsFirstChunk rest y.now w)
+      → MatchOption r (length s < at + w) (λ y. (at + w ≤ length s) × (y.now ≡ take w (drop at s)))
+  first_had rest e n None h = omega (arith, h)
+  first_had rest e n (Some y) h = (omega (arith, h.enough), h.same ∙ ap (take w) e)
+
+  pub part_had : (rest : List ℕ) → rest ≡ drop at s → length rest + at ≡ length s → (r : Option (Bor (List ℕ)))
+      → MatchOption r ((w < 0) ⊎ (length rest < w)) (λ y. (0 ≤ w) × (w ≤ length rest) × (y.now ≡ slice_range rest 0 w) × (length y.now + 0 ≡ w))
+      → MatchOption r (length s < at + w) (λ y. (at + w ≤ length s) × (y.now ≡ take w (drop at s)))
+  part_had rest e n None h = omega (arith, h)
+  part_had rest e n (Some y) h = let z : w - 0 ≡ w = omega arith in (omega (arith, h.1), h.2 ∙ ap (λ (k : ℕ). take k rest) z ∙ ap (take w) e)
+
+  -- bytes had are a number had
+  number_is : mapped (be_from 0) (raw_at w s at) ≡ num_at w s at
+  unfolding raw_at num_at
+  number_is = by_test (leb (at + w) (length s))
+    where
+      by_test : (t : Bool) → mapped (be_from 0) (pick t (got (take w (drop at s)) (at + w)) (bad 3)) ≡ pick t (got (be_from 0 (take w (drop at s))) (at + w)) (bad 3)
+      by_test true = refl
+      by_test false = refl
+
+  pub number_had : (bs : List ℕ) (n v : ℕ) → got bs n ≡ raw_at w s at → v ≡ be_from 0 bs → got v n ≡ num_at w s at
+  number_had bs n v e i = ap (λ (x : ℕ). got x n) i ∙ ap (mapped (be_from 0)) e ∙ number_is
+
+  pub number_missing : bad 3 ≡ raw_at w s at → bad 3 ≡ num_at w s at
+  number_missing e = ap (mapped (be_from 0)) e ∙ number_is
+
 module _ (s : List ℕ) (at : ℕ) where
   pub byte_got : at < length s → byte_at s at ≡ got (get_or s at 0) (at + 1)
   unfolding byte_at
@@ -118,10 +186,6 @@ module _ (n : ℕ) (s : List ℕ) (at : ℕ) where
   pub raw_got : at + n ≤ length s → raw_of n s at ≡ take n (drop at s)
   unfolding raw_of
   raw_got h = simp (le-leb _ _ h)
-
-  -- what a copy of the part at..end into n zeros holds
-  pub raw-copied : (e : ℕ) (r : List ℕ) → at + n ≤ length s → e ≡ at + n → r ≡ take (e - at) (drop at s) → r ≡ raw_of n s at
-  raw-copied e r h p i = rw (raw_got h) (i ∙ rw (p, add-sub_cancel_left))
 
 -- Runs of fields by one rule, as a loop walks them: i of n are read, and the next stands at p.
 module _ {A : Type 0} (f : ℕ → Parse A) (n : ℕ) (i : ℕ) (p : ℕ) (x : Parse (Unit {0})) where
@@ -155,7 +219,7 @@ module _ {A : Type 0} (f : ℕ → Parse A) (max : ℕ) (s : List ℕ) (at : ℕ
   unfolding span_at
   span_bad n p k e h r = rw (e, le-leb n max h, r)
 
-  pub span_got : (n p q : ℕ) → byte_at s at ≡ got n p → n ≤ max → runs f n p ≡ got tt q → span_at f max s at ≡ got (n, p) q
+  pub span_got : (n p q : ℕ) → byte_at s at ≡ got n p → n ≤ max → runs f n p ≡ got tt q → span_at f max s at ≡ got (record { count = n; first = p }) q
   unfolding span_at
   span_got n p q e h r = rw (e, le-leb n max h, r)
 
@@ -267,22 +331,22 @@ module _ {A : Type 0} (f : ℕ → Parse ℕ) (g : ℕ → Parse A) (v : ℕ →
 -- reading a list's places and copying the values after is reading the list
 module _ {A : Type 0} (f : ℕ → Parse ℕ) (g : ℕ → Parse A) (v : ℕ → A) (w max : ℕ) (s : List ℕ) (h : (p : ℕ) → Agree w (length s) p (f p) (g p) (v p)) where
   span_run : (n p : ℕ) (r : Parse (Unit {0})) → runs f n p ≡ r → n ≤ max → p ≤ length s
-      → mapped (λ (m : ℕ × ℕ). many_of v w max s m.0 m.1) (bind r (λ _ q. got (n, p) q)) ≡ bind r (λ _ q. got (list_of v w n p) q)
+      → mapped (λ (m : Listing). many_of v w max s m.count m.first) (bind r (λ _ q. got (record { count = n; first = p }) q)) ≡ bind r (λ _ q. got (list_of v w n p) q)
   span_run n p (got t q) e k l = rw (many_got v w max s n p k (runs-room f g v w (length s) h n p t q l e))
   span_run n p (bad r) e k l = refl
 
   span_counted : (n p : ℕ) (b : Bool) → leb n max ≡ b → p ≤ length s
-      → mapped (λ (m : ℕ × ℕ). many_of v w max s m.0 m.1) (pick b (bind (runs f n p) (λ _ q. got (n, p) q)) (bad 4)) ≡ pick b (many_at g n p) (bad 4)
+      → mapped (λ (m : Listing). many_of v w max s m.count m.first) (pick b (bind (runs f n p) (λ _ q. got (record { count = n; first = p }) q)) (bad 4)) ≡ pick b (many_at g n p) (bad 4)
   span_counted n p true e l = span_run n p (runs f n p) refl (leb-true n max e) l ∙ runs_values f g v w (length s) h n p
   span_counted n p false e l = refl
 
-  pub span_values : (at : ℕ) → mapped (λ (m : ℕ × ℕ). many_of v w max s m.0 m.1) (span_at f max s at) ≡ list_at g max s at
+  pub span_values : (at : ℕ) → mapped (λ (m : Listing). many_of v w max s m.count m.first) (span_at f max s at) ≡ list_at g max s at
   unfolding span_at list_at byte_at
   span_values at = go (ltb at (length s)) refl
     where
       go : (b : Bool) → ltb at (length s) ≡ b
-          → mapped (λ (m : ℕ × ℕ). many_of v w max s m.0 m.1)
-          (bind (pick b (got (get_or s at 0) (at + 1)) (bad 3)) (λ n p. pick (leb n max) (bind (runs f n p) (λ _ q. got (n, p) q)) (bad 4)))
+          → mapped (λ (m : Listing). many_of v w max s m.count m.first)
+          (bind (pick b (got (get_or s at 0) (at + 1)) (bad 3)) (λ n p. pick (leb n max) (bind (runs f n p) (λ _ q. got (record { count = n; first = p }) q)) (bad 4)))
           ≡ bind (pick b (got (get_or s at 0) (at + 1)) (bad 3)) (λ n p. pick (leb n max) (many_at g n p) (bad 4))
       go true e =
           let l : at + 1 ≤ length s = omega (arith, ltb-true at (length s) e) in

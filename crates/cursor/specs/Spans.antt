@@ -3,6 +3,7 @@
 use Rattle.std.specs.Prelude.{ℕ, zero, suc, ◌+◌, ◌*◌, List, [], ◌∷◌, leb, length}
 use Rattle.lists.specs.Lists.{pick, both}
 use Rattle.format.specs.Parse.{Parse, got, bad, bind, byte_at}
+use Rattle.cursor.specs.declared.Listing.{Listing}
 
 -- what was read, put through a function
 abbrev pub mapped : {A B : Type 0} → (A → B) → Parse A → Parse B
@@ -15,9 +16,9 @@ runs f zero p = got tt p
 runs f (suc n) p = bind (f p) (λ _ q. runs f n q)
 
 -- a count byte of at most max, and as many fields by one rule: the count and the first one's place
-unfoldable pub span_at : {A : Type 0} → (ℕ → Parse A) → ℕ → List ℕ → ℕ → Parse (ℕ × ℕ)
+unfoldable pub span_at : {A : Type 0} → (ℕ → Parse A) → ℕ → List ℕ → ℕ → Parse Listing
 span_at f max s at =
-    bind (byte_at s at) (λ n p. pick (leb n max) (bind (runs f n p) (λ _ q. got (n, p) q)) (bad 4))
+    bind (byte_at s at) (λ n p. pick (leb n max) (bind (runs f n p) (λ _ q. got (record { count = n; first = p }) q)) (bad 4))
 
 -- n values, each w bytes after the one before
 unfoldable pub list_of : {A : Type 0} → (ℕ → A) → ℕ → ℕ → ℕ → List A

@@ -13,8 +13,7 @@ use lib.ListN.{length, take, drop, get_or, set, length-take, length-append, drop
 use lib.Seq.{take_all, take-take, take-append-le, take-suc, get_or-take}
 use borrow.Author.Tests.{ltb-true, ltb-false, le-leb, lt-leb}
 use Rattle.lists.specs.Lists.{pick, either, any, filter, first_from, is_at}
-use Rattle.lists.specs.declared.Found.{Found}
-use Rattle.lists.specs.declared.Found.TheVariants.{At, Nothing}
+use Rattle.std.specs.Prelude.{Option, Some, None}
 use Rattle.lists.proofs.Walks.{head_at, used-end, first_here, first_next, first-end, filter_in, filter_out, filter-end}
 use Rattle.lists.proofs.Facts.{first_any, any_append}
 use Rattle.lists.proofs.Padding.{padded_push}
@@ -46,19 +45,19 @@ last_at d places n i hn hi =
 
 module _ {A : Type 0} (f : A → Bool) (d : A) (places xs : List A) (n i : ℕ) (e : take n places ≡ xs)
     (so : first_from f 0 (take n places) ≡ first_from f i (drop i (take n places))) where
-  pub found_here : i < n → i < length places → f (get_or places i d) ≡ true → At i ≡ first_from f 0 xs
+  pub found_here : i < n → i < length places → f (get_or places i d) ≡ true → Some i ≡ first_from f 0 xs
   found_here hn hi t = sym (so ∙ first_here f (take n places) (get_or places i d) i (head_at d places n i hn hi) t) ∙ ap (first_from f 0) e
 
   pub found_next : i < n → i < length places → f (get_or places i d) ≡ false
       → first_from f 0 (take n places) ≡ first_from f (i + 1) (drop (i + 1) (take n places))
   found_next hn hi t = so ∙ first_next f (take n places) (get_or places i d) i (head_at d places n i hn hi) t
 
-  pub found_none : n ≤ i → Nothing ≡ first_from f 0 xs
+  pub found_none : n ≤ i → None ≡ first_from f 0 xs
   found_none h = sym (so ∙ first-end f (take n places) i (used-end places n i h)) ∙ ap (first_from f 0) e
 
 module _ (places xs : List Item) (n i : ℕ) (e : take n places ≡ xs)
     (so : repeat_from [] 0 (take n places) ≡ repeat_from (take i (take n places)) i (drop i (take n places))) where
-  pub repeat_here : i < n → i < length places → member (take i places) (get_or places i no_item) ≡ true → At i ≡ repeat_from [] 0 xs
+  pub repeat_here : i < n → i < length places → member (take i places) (get_or places i no_item) ≡ true → Some i ≡ repeat_from [] 0 xs
   unfolding repeat_from
   repeat_here hn hi t =
       let h : i ≤ n = omega arith in
@@ -74,7 +73,7 @@ module _ (places xs : List Item) (n i : ℕ) (e : take n places ≡ xs)
       let s = rw (head_at no_item places n i hn hi, g) at so in
       rw (last_at no_item places n i hn hi) s
 
-  pub repeat_none : n ≤ i → Nothing ≡ repeat_from [] 0 xs
+  pub repeat_none : n ≤ i → None ≡ repeat_from [] 0 xs
   unfolding repeat_from
   repeat_none h =
       let s = rw (drop_of_length-le (take n places) (used-end places n i h)) at so in
@@ -82,7 +81,7 @@ module _ (places xs : List Item) (n i : ℕ) (e : take n places ≡ xs)
 
 -- ---- the checks in order
 -- a check that refuses where a search ends at a place
-pub searched : {A : Type 0} {r : Answer} {found : Found} (f : A → Bool) (xs : List A) (x : Answer) → found ≡ first_from f 0 xs
+pub searched : {A : Type 0} {r : Answer} {found : Option ℕ} (f : A → Bool) (xs : List A) (x : Answer) → found ≡ first_from f 0 xs
     → r ≡ refuse_if (is_at found) x → r ≡ refuse_if (any f xs) x
 searched f xs x e g = g ∙ ap (λ (b : Bool). refuse_if b x) (ap is_at e ∙ first_any f 0 xs)
 

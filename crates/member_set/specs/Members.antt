@@ -2,8 +2,7 @@
 -- 18 and 19: "1 witnesses, 2 removals, 3 additions". 38's detail: the count.
 use Rattle.std.specs.Prelude.{ℕ, ◌+◌, List, [], ◌∷◌, ◌++◌, Bool, not, leb, length}
 use Rattle.lists.specs.Lists.{pick, any, filter, is_at}
-use Rattle.lists.specs.declared.Found.{Found}
-use Rattle.lists.specs.declared.Found.TheVariants.{At, Nothing}
+use Rattle.std.specs.Prelude.{Option, Some, None}
 use Rattle.item.specs.declared.Item.{Item}
 use Rattle.item.specs.Item.{is_transferable}
 use Rattle.items.specs.Items.{member, packed}
@@ -13,9 +12,9 @@ use Rattle.member_set.specs.declared.Change.{Change}
 
 -- ---- the single faults
 -- the first place whose item stood earlier
-unfoldable pub repeat_from : List Item → ℕ → List Item → Found
-repeat_from before k [] = Nothing
-repeat_from before k (x ∷ xs) = pick (member before x) (At k) (repeat_from (before ++ (x ∷ [])) (k + 1) xs)
+unfoldable pub repeat_from : List Item → ℕ → List Item → Option ℕ
+repeat_from before k [] = None
+repeat_from before k (x ∷ xs) = pick (member before x) (Some k) (repeat_from (before ++ (x ∷ [])) (k + 1) xs)
 
 abbrev pub duplicate : ℕ → List Item → Answer
 duplicate list xs = refuse_if (is_at (repeat_from [] 0 xs)) (refused 18 list 0)

@@ -12,7 +12,6 @@ ghost use Rattle.member_set.specs.Parts.{delta_faults, static_faults, grown, pus
 use answer::Answer;
 use item::Item;
 use items::Items;
-use lists::Found;
 
 // The answer, and the new list where it is 0; else the empty list.
 #[derive(Clone, Copy)]
@@ -33,13 +32,13 @@ fn has(l: Items, x: Item) -> bool
     ensures { result ≡ member (listed l) x }
 {
     match items::find(l, x) {
-        Found::At(_) => true,
-        Found::Nothing => false,
+        Some(_) => true,
+        None => false,
     }
 }
 
 // The first place whose item stood earlier.
-pub fn first_repeat(l: Items) -> Found
+pub fn first_repeat(l: Items) -> Option<usize>
     ensures { result ≡ repeat_from [] 0 (listed l) }
 {
     let n = used(l);
@@ -52,14 +51,14 @@ pub fn first_repeat(l: Items) -> Found
             at: places,
         };
         if has(earlier, x) {
-            return Found::At(i);
+            return Some(i);
         }
         i += 1;
     }
-    Found::Nothing
+    None
 }
 
-pub fn first_transferable(l: Items) -> Found
+pub fn first_transferable(l: Items) -> Option<usize>
     ensures { result ≡ first_from is_transferable 0 (listed l) }
 {
     let n = used(l);
@@ -68,15 +67,15 @@ pub fn first_transferable(l: Items) -> Found
     while i < n {
         let x = places[i];
         if item::is_transferable(x.code) {
-            return Found::At(i);
+            return Some(i);
         }
         i += 1;
     }
-    Found::Nothing
+    None
 }
 
 // The first of xs that is not among ys.
-pub fn first_absent(xs: Items, ys: Items) -> Found
+pub fn first_absent(xs: Items, ys: Items) -> Option<usize>
     ensures { result ≡ first_from (absent (listed ys)) 0 (listed xs) }
 {
     let n = used(xs);
@@ -85,15 +84,15 @@ pub fn first_absent(xs: Items, ys: Items) -> Found
     while i < n {
         let x = places[i];
         if !has(ys, x) {
-            return Found::At(i);
+            return Some(i);
         }
         i += 1;
     }
-    Found::Nothing
+    None
 }
 
 // The first of xs that is among ys: the first y that equals it ends the search.
-pub fn first_overlap(xs: Items, ys: Items) -> Found
+pub fn first_overlap(xs: Items, ys: Items) -> Option<usize>
     ensures { result ≡ first_from (member (listed ys)) 0 (listed xs) }
 {
     let n = used(xs);
@@ -103,14 +102,14 @@ pub fn first_overlap(xs: Items, ys: Items) -> Found
     let mut i: usize = 0;
     'search: loop {
         if n <= i {
-            break 'search Found::Nothing;
+            break 'search None;
         }
         let x = these[i];
         let mut j: usize = 0;
         while j < m {
             let y = those[j];
             if item::same(x, y) {
-                break 'search Found::At(i);
+                break 'search Some(i);
             }
             j += 1;
         }
@@ -118,12 +117,12 @@ pub fn first_overlap(xs: Items, ys: Items) -> Found
     }
 }
 
-fn refuse_at(found: Found, which: u8, list: u8) -> Answer
+fn refuse_at(found: Option<usize>, which: u8, list: u8) -> Answer
     ensures { result ≡ refuse_if (is_at found) (refused which list 0) }
 {
     match found {
-        Found::At(_) => answer::refuse(which, list as u64, 0),
-        Found::Nothing => answer::accept(),
+        Some(_) => answer::refuse(which, list as u64, 0),
+        None => answer::accept(),
     }
 }
 

@@ -11,8 +11,7 @@ use native.Mathlib.Omega.{arith}
 use lib.Dec.{eqb, leb}
 use lib.ListN.{length}
 use borrow.Author.Tests.{eqb-true, eqb-false, eq-eqb, not-true, not-false}
-use Rattle.lists.specs.declared.Found.{Found}
-use Rattle.lists.specs.declared.Found.TheVariants.{At, Nothing}
+use Rattle.std.specs.Prelude.{Option, Some, None}
 use Rattle.lists.specs.Lists.{pick, both, first_from}
 use Rattle.lists.proofs.Facts.{clash, first_at, FirstAt}
 use Rattle.answer.specs.declared.Answer.{Answer}
@@ -29,7 +28,7 @@ tells_none t places z none = (((λ _. none), λ _. z), λ some. absurd (some z))
 
 module _ (t : Threshold) (places : List ℕ) where
   -- a search for the first unsatisfied clause
-  searched : (n : ℕ) → first_from not 1 (by_clause t places) ≡ At n → FirstUnsatisfied t places n
+  searched : (n : ℕ) → first_from not 1 (by_clause t places) ≡ Some n → FirstUnsatisfied t places n
   searched n e =
       let ms = by_clause t places in
       let f : FirstAt not false 1 ms n = first_at not false 1 ms n e in
@@ -51,7 +50,7 @@ module _ (t : Threshold) (places : List ℕ) where
   unfolding judged
   of_none e c = rw (e, c)
 
-  of_clauses : (f : Found) → is_simple t ≡ false → eqb t.clauses 0 ≡ false → first_from not 1 (by_clause t places) ≡ f → judged_by t places ≡ short_at f
+  of_clauses : (f : Option ℕ) → is_simple t ≡ false → eqb t.clauses 0 ≡ false → first_from not 1 (by_clause t places) ≡ f → judged_by t places ≡ short_at f
   unfolding judged
   of_clauses f e c g = rw (e, c, g)
 
@@ -61,10 +60,10 @@ module _ (t : Threshold) (places : List ℕ) where
   some_named n e c j (inr (inl simple)) = clash (sym simple ∙ e)
   some_named n e c j (inr (inr none)) = clash (sym (eq-eqb t.clauses 0 none) ∙ c)
 
-  by_found : (f : Found) → is_simple t ≡ false → eqb t.clauses 0 ≡ false → first_from not 1 (by_clause t places) ≡ f → Tells (NoneToName t places) t places number
-  by_found Nothing e c g = let j = of_clauses Nothing e c g in tells_none t places (ap clause_named j) (inl (ap is_met j))
-  by_found (At n) e c g =
-      let j = of_clauses (At n) e c g in
+  by_found : (f : Option ℕ) → is_simple t ≡ false → eqb t.clauses 0 ≡ false → first_from not 1 (by_clause t places) ≡ f → Tells (NoneToName t places) t places number
+  by_found None e c g = let j = of_clauses None e c g in tells_none t places (ap clause_named j) (inl (ap is_met j))
+  by_found (Some n) e c g =
+      let j = of_clauses (Some n) e c g in
       let first = searched n g in
       let k : number ≡ n = ap clause_named j in
       (((λ z. absurd (omega (arith, z, k, first.0))), λ none. absurd (some_named n e c j none)), λ _. rw k first)

@@ -19,7 +19,7 @@ use borrow.Author.Tests.{eqb-true, leb-true}
 use mir.Val.{Val}
 use denote.Laws.{Is}
 use Rattle.lists.specs.Lists.{pick, both, either, any, all, same_numbers}
-use Rattle.lists.specs.declared.Found.TheVariants.{At, Nothing}
+use Rattle.std.specs.Prelude.{Option, Some, None}
 use Rattle.lists.proofs.Facts.{both_true, both_assoc, both_in, picks, same-numbers, clash}
 use Rattle.lists.proofs.Padding.{is_padded}
 use Rattle.places.specs.Places.{set_of, with_place}
@@ -51,19 +51,19 @@ both_right false b e = refl
 
 -- ---- a place within a list
 module _ (k n : ℕ) where
-  pub within_at : (p : ℕ) → place_within k n ≡ At p → (p ≡ k) × (ltb k n ≡ true)
+  pub within_at : (p : ℕ) → place_within k n ≡ Some p → (p ≡ k) × (ltb k n ≡ true)
   unfolding place_within
   within_at p = by_test (ltb k n) refl
     where
-      by_test : (b : Bool) → ltb k n ≡ b → pick b (At k) Nothing ≡ At p → (p ≡ k) × (b ≡ true)
+      by_test : (b : Bool) → ltb k n ≡ b → pick b (Some k) None ≡ Some p → (p ≡ k) × (b ≡ true)
       by_test true e f = (let g : p ≡ k = cc in g, refl)
       by_test false e f = let z : ◌≡◌ {A = ℕ} 0 1 = cc in absurd (omega arith)
 
-  within_none : place_within k n ≡ Nothing → ltb k n ≡ false
+  within_none : place_within k n ≡ None → ltb k n ≡ false
   unfolding place_within
   within_none = by_test (ltb k n)
     where
-      by_test : (b : Bool) → pick b (At k) Nothing ≡ Nothing → b ≡ false
+      by_test : (b : Bool) → pick b (Some k) None ≡ None → b ≡ false
       by_test true f = let z : ◌≡◌ {A = ℕ} 0 1 = cc in absurd (omega arith)
       by_test false f = refl
 
@@ -76,7 +76,7 @@ module _ (next set : ℕ) (s : Siger) where
   unfolding exposed_with
   exposed_off e = rw (both_left s.dual (both (ltb s.ondex.0 next) s.matches) e)
 
-  pub exposed_past : place_within s.ondex.0 next ≡ Nothing → set ≡ exposed_with next set s
+  pub exposed_past : place_within s.ondex.0 next ≡ None → set ≡ exposed_with next set s
   unfolding exposed_with
   exposed_past e = rw (both_right s.dual _ (both_left _ s.matches (within_none s.ondex.0 next e)))
 
@@ -84,7 +84,7 @@ module _ (next set : ℕ) (s : Siger) where
   unfolding exposed_with
   exposed-not e = rw (both_right s.dual _ (both_right (ltb s.ondex.0 next) _ e))
 
-  pub exposed_in : (p : ℕ) → s.dual ≡ true → place_within s.ondex.0 next ≡ At p → s.matches ≡ true → with_place set p ≡ exposed_with next set s
+  pub exposed_in : (p : ℕ) → s.dual ≡ true → place_within s.ondex.0 next ≡ Some p → s.matches ≡ true → with_place set p ≡ exposed_with next set s
   unfolding exposed_with
   exposed_in p d e m =
       let f = within_at s.ondex.0 next p e in
@@ -95,11 +95,11 @@ module _ (keys next : ℕ) (c : Counted) (s : Siger) where
   unfolding counted_with
   counted_off e = rw (both_left s.verified (ltb s.index.0 keys) e)
 
-  pub counted_past : place_within s.index.0 keys ≡ Nothing → c ≡ counted_with keys next c s
+  pub counted_past : place_within s.index.0 keys ≡ None → c ≡ counted_with keys next c s
   unfolding counted_with
   counted_past e = rw (both_right s.verified _ (within_none s.index.0 keys e))
 
-  pub counted_in_lem : (p v x : ℕ) → s.verified ≡ true → place_within s.index.0 keys ≡ At p → v ≡ with_place c.verified p → x ≡ exposed_with next c.exposed s
+  pub counted_in_lem : (p v x : ℕ) → s.verified ≡ true → place_within s.index.0 keys ≡ Some p → v ≡ with_place c.verified p → x ≡ exposed_with next c.exposed s
       → record { verified = v; exposed = x } ≡ counted_with keys next c s
   unfolding counted_with
   counted_in_lem p v x g e h k =

@@ -7,7 +7,6 @@ ghost use Rattle.firsts.specs.Firsts.{has_first};
 ghost use Rattle.verification.specs.Verification.{signatures, same_flag, same_wire, place_within, key_place, commitment_place};
 ghost use Rattle.verification.specs.Verification.{exposed_with, counted_with, counted_of, claimed, no_siger, ondex_fits, zero_siger, shape_of};
 
-use lists::Found;
 
 #[derive(Clone, Copy)]
 pub struct Index(pub u32);
@@ -93,24 +92,24 @@ pub fn same_wire(a: Siger, b: Siger) -> bool
     same_raw(x, y)
 }
 
-fn within(place: u32, n: usize) -> Found
+fn within(place: u32, n: usize) -> Option<usize>
     ensures { result ≡ place_within place n }
 {
     let at = place as usize;
     if at < n {
-        Found::At(at)
+        Some(at)
     } else {
-        Found::Nothing
+        None
     }
 }
 
-pub fn key_place(index: Index, keys: usize) -> Found
+pub fn key_place(index: Index, keys: usize) -> Option<usize>
     ensures { result ≡ key_place index keys }
 {
     within(index.0, keys)
 }
 
-pub fn commitment_place(ondex: Ondex, next: usize) -> Found
+pub fn commitment_place(ondex: Ondex, next: usize) -> Option<usize>
     ensures { result ≡ commitment_place ondex next }
 {
     within(ondex.0, next)
@@ -124,7 +123,7 @@ fn exposed_with(set: u16, s: Claim, next: usize) -> u16
     if !s.dual {
         return set;
     }
-    let Found::At(place) = commitment_place(ondex, next) else {
+    let Some(place) = commitment_place(ondex, next) else {
         return set;
     };
     if s.matches {
@@ -142,7 +141,7 @@ pub fn counted_claim(c: Counted, s: Claim, keys: usize, next: usize) -> Counted
     if !s.verified {
         return c;
     }
-    let Found::At(place) = key_place(index, keys) else {
+    let Some(place) = key_place(index, keys) else {
         return c;
     };
     let verified = places::with_place(c.verified, place as u32);

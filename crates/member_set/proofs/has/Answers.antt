@@ -5,10 +5,10 @@ use Rattle.item.specs.Item.{same_item}
 use Rattle.items.specs.Items.{listed}
 use Rattle.member_set.proofs.has.Goals as goal
 
-pub returns-in-At : goal.returns-in-At
-returns-in-At c = let a = c.args in
-    sym (ap is_at c.in-At.is) ∙ ap is_at c.find.ensures ∙ first_any (same_item a.x) 0 (listed a.l)
+pub returns-in-Some : goal.returns-in-Some
+returns-in-Some c = let a = c.args in
+    sym (ap is_at c.in-Some.is) ∙ ap is_at c.find.ensures ∙ first_any (same_item a.x) 0 (listed a.l)
 
-pub returns-in-Nothing : goal.returns-in-Nothing
-returns-in-Nothing c = let a = c.args in
-    sym (ap is_at c.in-Nothing.is) ∙ ap is_at c.find.ensures ∙ first_any (same_item a.x) 0 (listed a.l)
+pub returns-in-None : goal.returns-in-None
+returns-in-None c = let a = c.args in
+    sym (ap is_at c.in-None.is) ∙ ap is_at c.find.ensures ∙ first_any (same_item a.x) 0 (listed a.l)

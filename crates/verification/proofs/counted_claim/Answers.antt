@@ -15,10 +15,10 @@ returns-in_default c = let a = c.args in
 
 pub overflow_cast-place : goal.overflow_cast-place
 overflow_cast-place c = let a = c.args in
-    let f = within_at a.s.index.0 a.keys c.in-At.place (sym c.key_place.ensures ∙ c.in-At.is) in
+    let f = within_at a.s.index.0 a.keys c.in-Some.place (sym c.key_place.ensures ∙ c.in-Some.is) in
     omega (arith, f.0)
 
 pub returns : goal.returns
 returns c = let a = c.args in
-    counted_in_lem a.keys a.next a.c (claimed a.s) c.in-At.place _ _ (not-false a.s.verified c.if-not-s.false)
-    (sym c.key_place.ensures ∙ c.in-At.is) c.with_place-verified.ensures c.exposed_with-exposed.ensures
+    counted_in_lem a.keys a.next a.c (claimed a.s) c.in-Some.place _ _ (not-false a.s.verified c.if-not-s.false)
+    (sym c.key_place.ensures ∙ c.in-Some.is) c.with_place-verified.ensures c.exposed_with-exposed.ensures

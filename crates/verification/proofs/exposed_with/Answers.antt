@@ -15,14 +15,14 @@ returns-in_default c = let a = c.args in
 
 pub overflow_cast-place : goal.overflow_cast-place
 overflow_cast-place c = let a = c.args in
-    let f = within_at a.s.ondex.0 a.next c.in-At.place (sym c.commitment_place.ensures ∙ c.in-At.is) in
+    let f = within_at a.s.ondex.0 a.next c.in-Some.place (sym c.commitment_place.ensures ∙ c.in-Some.is) in
     omega (arith, f.0)
 
 pub returns-then-s : goal.returns-then-s
 returns-then-s c = let a = c.args in
     c.with_place.ensures
-    ∙ exposed_in a.next a.set (claimed a.s) c.in-At.place (not-false a.s.dual c.if-not-s.false)
-    (sym c.commitment_place.ensures ∙ c.in-At.is) c.if-s.true
+    ∙ exposed_in a.next a.set (claimed a.s) c.in-Some.place (not-false a.s.dual c.if-not-s.false)
+    (sym c.commitment_place.ensures ∙ c.in-Some.is) c.if-s.true
 
 pub returns-else-s : goal.returns-else-s
 returns-else-s c = let a = c.args in
