@@ -13,7 +13,7 @@ use native.Mathlib.Numerals.{add-one}
 use native.Mathlib.Omega.{arith}
 use lib.Dec.{leb, ltb}
 use lib.ListN.{length, take, drop, get_or, set, replicate, length-drop}
-use lib.Seq.{take-suc, get_or-drop}
+use lib.Seq.{take-suc, get_or-drop, drop-cons}
 use denote.Ref.{Bor}
 use Rattle.std.specs.Array.{IsFirstChunk}
 use Rattle.std.specs.Prelude.{Option, Some, None, MatchOption, ◌⊎◌, slice_range}
@@ -268,6 +268,15 @@ module _ {A : Type 0} (f : ℕ → A) (w : ℕ) where
   -- nothing, nowhere
   pub many_none : (max : ℕ) (s : List ℕ) → many_of f w max s 0 0 ≡ []
   many_none max s = many_got max s 0 0 (omega arith) (omega arith) ∙ list-none 0
+
+-- bytes one after another are a part of what they stand in
+pub bytes_listed : (s : List ℕ) (n p : ℕ) → p + n ≤ length s → list_of (λ (k : ℕ). get_or s k 0) 1 n p ≡ take n (drop p s)
+unfolding list_of
+bytes_listed s zero p h = refl
+bytes_listed s (suc n) p h =
+    let l : p < length s = omega arith in
+    let k : p + 1 + n ≤ length s = omega arith in
+    rw (drop-cons s p 0 l, bytes_listed s n (p + 1) k, add-one)
 
 -- A field of w bytes, by its place and by its value: had by both where there is room, or refused by both.
 pub data Agree {A : Type 0} (w limit p : ℕ) (f : Parse ℕ) (g : Parse A) (v : A) : Type 0 where

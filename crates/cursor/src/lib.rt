@@ -1,7 +1,8 @@
 // Big-endian numbers and runs of bytes at a place of a lent slice. Every function here takes any place.
 #![tactic(auto)]
 
-ghost use Rattle.std.specs.Prelude.{◌≡◌, ◌+◌, ◌<◌, ◌≤◌, MatchOption, length, take, drop};
+ghost use Rattle.std.specs.Prelude.{◌≡◌, ◌+◌, ◌*◌, ◌<◌, ◌≤◌, MatchOption, leb, length, take, drop};
+ghost use Rattle.lists.specs.Lists.{both};
 ghost use Rattle.format.specs.Parse.{byte_at, num_at, raw_at};
 ghost use Rattle.cursor.specs.Cursor.{had, raw_of};
 
@@ -17,6 +18,16 @@ pub fn bytes(s: &[u8], at: usize, n: usize) -> Option<&[u8]>
     ensures { MatchOption result (length s.now < at + n) (λ part. (at + n ≤ length s.now) × (part.now ≡ take n (drop at s.now))) }
 {
     s.get(at..)?.get(..n)
+}
+
+// Whether a list of at most so many fields, each of a width, stands where it is said to.
+pub fn stands(s: &[u8], l: Listing, width: usize, most: usize) -> bool
+    ensures { result ≡ both (leb l.count most) (leb (l.first + l.count * width) (length s.now)) }
+{
+    let Some(size) = l.count.checked_mul(width) else {
+        return false;
+    };
+    l.count <= most && bytes(s, l.first, size).is_some()
 }
 
 fn array_at<const N: usize>(s: &[u8], at: usize) -> Option<&[u8; N]>

@@ -1,12 +1,15 @@
 -- Fields by their places against format's fields by value. Assumes nothing.
 --     item_value, items_value, config_value    scanning a field and copying it after is reading it
-use mathlib.Core.Path.{◌≡◌, refl, ap}
+use mathlib.Core.Path.{◌≡◌, refl, ap, ◌∙◌}
 use mathlib.Core.Bool.{Bool, true, false}
-use mathlib.Core.List.{List}
-use Prim.Native.Nat.{ℕ, ◌+◌, ◌≤◌, ◌<◌}
+use mathlib.Core.List.{List, [], ◌∷◌, ◌++◌}
+use Prim.Native.Nat.{ℕ, suc, ◌+◌, ◌≤◌, ◌<◌}
 use native.Mathlib.Omega.{arith}
 use lib.Dec.{leb, ltb}
-use lib.ListN.{length, get_or, replicate, get_or-eq_default}
+use lib.ListN.{length, get_or, replicate, take, drop, get_or-eq_default}
+use lib.Seq.{get_or-drop}
+use Rattle.std.proofs.lemmas.List.{drop-replicate}
+use native.Mathlib.Nat.{add-zero}
 use borrow.Author.Tests.{le-leb, lt-leb, leb-true, leb-false, ltb-true, ltb-false}
 use Rattle.lists.specs.Lists.{padded}
 use Rattle.item.specs.declared.Item.{Item}
@@ -18,9 +21,10 @@ use Rattle.config.specs.declared.Config.{Config}
 use Rattle.config.specs.Config.{is_trait, packed_traits}
 use Rattle.format.specs.Parse.{Parse, got, bad, bind, byte_at, raw_at, classed, list_at}
 use Rattle.format.specs.Fields.{item_at, items_at, trait_at, config_at}
+use Rattle.cursor.specs.declared.Listing.{Listing}
 use Rattle.cursor.specs.Cursor.{raw_of}
 use Rattle.cursor.specs.Spans.{mapped, span_at, list_of, many_of}
-use Rattle.cursor.proofs.Laws.{byte_got, byte-short, raw-short, list_length, Agree, had, refused, place_value, span_values}
+use Rattle.cursor.proofs.Laws.{byte_got, byte-short, raw-short, list_length, many_got, bytes_listed, Agree, had, refused, place_value, span_values}
 use Rattle.field.specs.Field.{place_at, trait_place_at, items_place_at, config_place_at, byte_of, item_of, items_of, config_of}
 
 module _ (k : Kind) (s : List ℕ) (at : ℕ) where
@@ -35,6 +39,14 @@ module _ (k : Kind) (s : List ℕ) (at : ℕ) where
   pub place_bad : at + 33 ≤ length s → fits_of k (get_or s at 0) ≡ false → place_at k s at ≡ bad 3
   unfolding place_at
   place_bad h e = rw (le-leb _ _ h, e)
+
+-- the first of some bytes at a place
+pub first_of : (n : ℕ) (s : List ℕ) (at : ℕ) (part : List ℕ) → part ≡ take (suc n) (drop at s) → get_or part 0 0 ≡ get_or s at 0
+first_of n s at part e = ap (λ (x : List ℕ). get_or x 0 0) e ∙ (heads (drop at s) ∙ rw (get_or-drop, add-zero) refl)
+  where
+    heads : (xs : List ℕ) → get_or (take (suc n) xs) 0 0 ≡ get_or xs 0 0
+    heads [] = refl
+    heads (x ∷ xs) = refl
 
 module _ (s : List ℕ) (at : ℕ) where
   pub trait_short : byte_at s at ≡ bad 3 → trait_place_at s at ≡ bad 3
@@ -66,9 +78,14 @@ pub items_is : (s : List ℕ) (n p i : ℕ) (l : List Item) → i ≡ n → l �
     → ◌≡◌ {A = Items} (record { count = n; at = l }) (packed (list_of (item_of s) 33 n p))
 items_is s n p i l e r = rw (r, e, list_length (item_of s) 33 n p)
 
-pub traits_is : (s : List ℕ) (n p i : ℕ) (l : List ℕ) → i ≡ n → l ≡ padded 8 0 (list_of (byte_of s) 1 i p)
-    → ◌≡◌ {A = Config} (record { count = n; traits = l }) (packed_traits (list_of (byte_of s) 1 n p))
-traits_is s n p i l e r = rw (r, e, list_length (byte_of s) 1 n p)
+-- traits copied as they stand
+pub traits_copied : (s : List ℕ) (n p : ℕ) (part : List ℕ) → n ≤ 8 → p + n ≤ length s → part ≡ take n (drop p s)
+    → ◌≡◌ {A = Config} (record { count = n; traits = part ++ drop n (replicate 8 0) }) (config_of s n p)
+unfolding config_of
+traits_copied s n p part m h e =
+    let got : many_of (byte_of s) 1 8 s n p ≡ list_of (byte_of s) 1 n p = many_got (byte_of s) 1 8 s n p m (omega arith) in
+    let l : length (list_of (byte_of s) 1 n p) ≡ n = list_length (byte_of s) 1 n p in
+    rw (got, l, bytes_listed s n p h, ← e, drop-replicate)
 
 -- w bytes as they stand, where there is room and where there is not
 module _ (w : ℕ) (s : List ℕ) (at : ℕ) where
@@ -135,20 +152,20 @@ module _ (k : Kind) (s : List ℕ) (at : ℕ) where
   pub item_value : mapped (item_of s) (place_at k s at) ≡ item_at k s at
   item_value = place_value (place_at k s) (item_at k s) (item_of s) 33 (length s) (item_agrees k s) at
 
-  pub items_value : mapped (λ (m : ℕ × ℕ). items_of s m.0 m.1) (items_place_at k s at) ≡ items_at k s at
+  pub items_value : mapped (λ (m : Listing). items_of s m.count m.first) (items_place_at k s at) ≡ items_at k s at
   unfolding items_at items_of
   items_value = packs (span_at (place_at k s) 16 s at) (list_at (item_at k s) 16 s at) (span_values (place_at k s) (item_at k s) (item_of s) 33 16 s (item_agrees k s) at)
     where
-      packs : (x : Parse (ℕ × ℕ)) (y : Parse (List Item)) → mapped (λ (m : ℕ × ℕ). many_of (item_of s) 33 16 s m.0 m.1) x ≡ y
-          → mapped (λ (m : ℕ × ℕ). packed (many_of (item_of s) 33 16 s m.0 m.1)) x ≡ bind y (λ xs n. got (packed xs) n)
+      packs : (x : Parse Listing) (y : Parse (List Item)) → mapped (λ (m : Listing). many_of (item_of s) 33 16 s m.count m.first) x ≡ y
+          → mapped (λ (m : Listing). packed (many_of (item_of s) 33 16 s m.count m.first)) x ≡ bind y (λ xs n. got (packed xs) n)
       packs (got m n) y e = rw (← e)
       packs (bad r) y e = rw (← e)
 
-pub config_value : (s : List ℕ) (at : ℕ) → mapped (λ (m : ℕ × ℕ). config_of s m.0 m.1) (config_place_at s at) ≡ config_at s at
+pub config_value : (s : List ℕ) (at : ℕ) → mapped (λ (m : Listing). config_of s m.count m.first) (config_place_at s at) ≡ config_at s at
 unfolding config_at config_of
 config_value s at = packs (span_at (trait_place_at s) 8 s at) (list_at (trait_at s) 8 s at) (span_values (trait_place_at s) (trait_at s) (byte_of s) 1 8 s (trait_agrees s) at)
   where
-    packs : (x : Parse (ℕ × ℕ)) (y : Parse (List ℕ)) → mapped (λ (m : ℕ × ℕ). many_of (byte_of s) 1 8 s m.0 m.1) x ≡ y
-        → mapped (λ (m : ℕ × ℕ). packed_traits (many_of (byte_of s) 1 8 s m.0 m.1)) x ≡ bind y (λ xs n. got (packed_traits xs) n)
+    packs : (x : Parse Listing) (y : Parse (List ℕ)) → mapped (λ (m : Listing). many_of (byte_of s) 1 8 s m.count m.first) x ≡ y
+        → mapped (λ (m : Listing). packed_traits (many_of (byte_of s) 1 8 s m.count m.first)) x ≡ bind y (λ xs n. got (packed_traits xs) n)
     packs (got m n) y e = rw (← e)
     packs (bad r) y e = rw (← e)

@@ -1,45 +1,21 @@
 // Fields of a record: an item, a list of items, config traits, a flag, a sequence number. Items and lists are scanned for their
-// places first and copied after, so that nothing is copied of a record that is refused.
+// places first and copied after, so that nothing is copied of a record that is refused. What is scanned comes with the place behind it.
 #![tactic(auto)]
 
 ghost use Rattle.std.specs.Prelude.{◌≡◌, ◌+◌, ◌*◌, ◌≤◌, length};
 ghost use Rattle.items.specs.Items.{packed};
 ghost use Rattle.config.specs.Config.{packed_traits};
 ghost use Rattle.format.specs.Fields.{flag_at, sn_at};
+ghost use Rattle.cursor.specs.Cursor.{had, scanned};
 ghost use Rattle.cursor.specs.Spans.{span_at, list_of};
-ghost use Rattle.field.specs.Field.{place_is, span_is, flag_is, sn_is, place_at, trait_place_at, entry_at, items_place_at, config_place_at, byte_of, item_of, items_of, config_of};
+ghost use Rattle.field.specs.Field.{place_at, trait_place_at, entry_at, items_place_at, config_place_at, byte_of, item_of, items_of, config_of};
 
+use answer::Refusal;
 use config::Config;
-use cursor::{Num8, Num64};
+use cursor::Listing;
 use item::{Item, Kind};
 use items::Items;
 use number::Number;
-
-// A field's place and the place after it, or 3.
-#[derive(Clone, Copy)]
-pub enum Place {
-    At(usize, usize),
-    Bad,
-}
-
-// A list's count, its first place and the place after it; or 3 or 4.
-#[derive(Clone, Copy)]
-pub enum Span {
-    Of(usize, usize, usize),
-    No(u8),
-}
-
-#[derive(Clone, Copy)]
-pub enum Flag {
-    Of(bool, usize),
-    Bad,
-}
-
-#[derive(Clone, Copy)]
-pub enum Sn {
-    Of(Number, usize),
-    Bad,
-}
 
 // What a list is made of.
 #[derive(Clone, Copy)]
@@ -48,38 +24,33 @@ enum Entry {
     Trait,
 }
 
-pub fn scan_item(s: &[u8], at: usize, kind: Kind) -> Place
-    ensures { place_is result ≡ place_at kind s.now at }
+pub fn scan_item(s: &[u8], at: usize, kind: Kind) -> Option<(usize, usize)>
+    ensures { had result ≡ place_at kind s.now at }
 {
-    let len = s.len();
-    if len < at {
-        return Place::Bad;
-    }
-    if len - at < 33 {
-        return Place::Bad;
-    }
-    if item::fits(s[at], kind) {
-        Place::At(at, at + 33)
+    let item = cursor::bytes(s, at, 33)?;
+    if item::fits(item[0], kind) {
+        Some((at, at + 33))
     } else {
-        Place::Bad
+        None
     }
 }
 
-fn scan_trait(s: &[u8], at: usize) -> Place
-    ensures { place_is result ≡ trait_place_at s.now at }
+#[tactic(auto, unfolding(crate::specs::Field::trait_place_at))]
+fn scan_trait(s: &[u8], at: usize) -> Option<(usize, usize)>
+    ensures { had result ≡ trait_place_at s.now at }
 {
-    let Num8::Of(t, next) = cursor::read_u8(s, at) else {
-        return Place::Bad;
+    let Some((t, next)) = cursor::read_u8(s, at) else {
+        return None;
     };
     if config::is_trait(t) {
-        Place::At(at, next)
+        Some((at, next))
     } else {
-        Place::Bad
+        None
     }
 }
 
-fn scan_entry(s: &[u8], at: usize, e: Entry) -> Place
-    ensures { place_is result ≡ entry_at e s.now at }
+fn scan_entry(s: &[u8], at: usize, e: Entry) -> Option<(usize, usize)>
+    ensures { had result ≡ entry_at e s.now at }
 {
     match e {
         Entry::Item(kind) => scan_item(s, at, kind),
@@ -87,164 +58,130 @@ fn scan_entry(s: &[u8], at: usize, e: Entry) -> Place
     }
 }
 
-fn scan_list(s: &[u8], at: usize, e: Entry, max: u8) -> Span
-    ensures { span_is result ≡ span_at (entry_at e s.now) max s.now at }
+#[tactic(auto, unfolding(cursor::specs::Spans::span_at))]
+fn scan_list(s: &[u8], at: usize, e: Entry, max: u8) -> Result<(Listing, usize), Refusal>
+    ensures { scanned result ≡ span_at (entry_at e s.now) max s.now at }
 {
-    let Num8::Of(n, first) = cursor::read_u8(s, at) else {
-        return Span::No(3);
+    let Some((n, first)) = cursor::read_u8(s, at) else {
+        return Err(Refusal::BadField);
     };
     if max < n {
-        return Span::No(4);
+        return Err(Refusal::TooMany);
     }
-    let mut i: u8 = 0;
     let mut p = first;
-    while i < n {
-        let Place::At(_, q) = scan_entry(s, p, e) else {
-            return Span::No(3);
+    for _turn in 0..n {
+        let Some((_, next)) = scan_entry(s, p, e) else {
+            return Err(Refusal::BadField);
         };
-        p = q;
-        i += 1;
+        p = next;
     }
-    Span::Of(n as usize, first, p)
+    let count = n as usize;
+    Ok((Listing { count, first }, p))
 }
 
-pub fn scan_items(s: &[u8], at: usize, kind: Kind) -> Span
-    ensures { span_is result ≡ items_place_at kind s.now at }
+pub fn scan_items(s: &[u8], at: usize, kind: Kind) -> Result<(Listing, usize), Refusal>
+    ensures { scanned result ≡ items_place_at kind s.now at }
 {
     scan_list(s, at, Entry::Item(kind), 16)
 }
 
-pub fn scan_config(s: &[u8], at: usize) -> Span
-    ensures { span_is result ≡ config_place_at s.now at }
+pub fn scan_config(s: &[u8], at: usize) -> Result<(Listing, usize), Refusal>
+    ensures { scanned result ≡ config_place_at s.now at }
 {
     scan_list(s, at, Entry::Trait, 8)
 }
 
 // The item at a place; zeros where the bytes run out.
+#[tactic(auto, using(crate::proofs::Laws::item_is, crate::proofs::Laws::item_none))]
 pub fn copy_item(s: &[u8], at: usize) -> Item
     ensures { result ≡ item_of s.now at }
 {
     if s.len() <= at {
         return item::zero();
     }
-    let code = s[at];
-    let raw = cursor::copy32(s, at + 1);
-    Item { code, raw }
+    let raw = cursor::copy_raw(s, at + 1);
+    Item { code: s[at], raw }
 }
 
-fn fill_items(s: &[u8], n: usize, first: usize) -> Items
-    requires n_bound { n ≤ 16 }
-    requires n_in_bounds { first + n * 33 ≤ length s.now }
-    ensures { result ≡ packed (list_of (item_of s.now) 33 n first) }
+fn fill_items(s: &[u8], l: Listing) -> Items
+    requires count_bound { l.count ≤ 16 }
+    requires in_bounds { l.first + l.count * 33 ≤ length s.now }
+    ensures { result ≡ packed (list_of (item_of s.now) 33 l.count l.first) }
 {
     let z = item::zero();
     let mut places = [z; 16];
-    let mut i: usize = 0;
-    let mut p = first;
-    while i < n {
-        let x = copy_item(s, p);
-        places[i] = x;
-        p += 33;
-        i += 1;
+    for i in 0..l.count {
+        places[i] = copy_item(s, l.first + i * 33);
     }
     Items {
-        count: n,
+        count: l.count,
         at: places,
     }
 }
 
-// The n items at a place; none where they are more than 16 or the bytes run out.
-pub fn copy_items(s: &[u8], n: usize, first: usize) -> Items
-    ensures { result ≡ items_of s.now n first }
+// The items of a list; none where they are more than 16 or the bytes run out.
+#[tactic(auto, unfolding(cursor::specs::Spans::many_of, crate::specs::Field::items_of))]
+pub fn copy_items(s: &[u8], l: Listing) -> Items
+    ensures { result ≡ items_of s.now l.count l.first }
 {
-    let len = s.len();
-    if 16 < n {
-        return items::empty();
+    if cursor::stands(s, l, 33, 16) {
+        fill_items(s, l)
+    } else {
+        items::empty()
     }
-    if len < first {
-        return items::empty();
-    }
-    if len - first < n * 33 {
-        return items::empty();
-    }
-    fill_items(s, n, first)
 }
 
 // How many items `copy_items` would copy.
-pub fn count_items(s: &[u8], n: usize, first: usize) -> usize
-    ensures { result ≡ (items_of s.now n first).count }
+#[tactic(auto, using(cursor::proofs::Laws::list_length), unfolding(cursor::specs::Spans::many_of, crate::specs::Field::items_of))]
+pub fn count_items(s: &[u8], l: Listing) -> usize
+    ensures { result ≡ (items_of s.now l.count l.first).count }
 {
-    let len = s.len();
-    if 16 < n {
-        return 0;
+    if cursor::stands(s, l, 33, 16) {
+        l.count
+    } else {
+        0
     }
-    if len < first {
-        return 0;
-    }
-    if len - first < n * 33 {
-        return 0;
-    }
-    n
 }
 
-fn fill_config(s: &[u8], n: usize, first: usize) -> Config
-    requires n_bound { n ≤ 8 }
-    requires n_in_bounds { first + n * 1 ≤ length s.now }
-    ensures { result ≡ packed_traits (list_of (byte_of s.now) 1 n first) }
+// The traits of a list; none where they are more than 8 or the bytes run out.
+#[tactic(auto, using(crate::proofs::Laws::traits_copied), unfolding(cursor::specs::Spans::many_of, crate::specs::Field::config_of))]
+pub fn copy_config(s: &[u8], l: Listing) -> Config
+    ensures { result ≡ config_of s.now l.count l.first }
 {
     let mut traits = [0u8; 8];
-    let mut i: usize = 0;
-    let mut p = first;
-    while i < n {
-        traits[i] = s[p];
-        p += 1;
-        i += 1;
+    if !cursor::stands(s, l, 1, 8) {
+        return Config { count: 0, traits };
     }
-    Config { count: n, traits }
+    traits[..l.count].copy_from_slice(&s[l.first..l.first + l.count]);
+    Config {
+        count: l.count,
+        traits,
+    }
 }
 
-// The n traits at a place; none where they are more than 8 or the bytes run out.
-pub fn copy_config(s: &[u8], n: usize, first: usize) -> Config
-    ensures { result ≡ config_of s.now n first }
+#[tactic(auto, unfolding(format::specs::Fields::flag_at))]
+pub fn read_flag(s: &[u8], at: usize) -> Option<(bool, usize)>
+    ensures { had result ≡ flag_at s.now at }
 {
-    let len = s.len();
-    let none = Config {
-        count: 0,
-        traits: [0u8; 8],
-    };
-    if 8 < n {
-        return none;
-    }
-    if len < first {
-        return none;
-    }
-    if len - first < n {
-        return none;
-    }
-    fill_config(s, n, first)
-}
-
-pub fn read_flag(s: &[u8], at: usize) -> Flag
-    ensures { flag_is result ≡ flag_at s.now at }
-{
-    let Num8::Of(b, next) = cursor::read_u8(s, at) else {
-        return Flag::Bad;
+    let Some((b, next)) = cursor::read_u8(s, at) else {
+        return None;
     };
     if 1 < b {
-        return Flag::Bad;
+        return None;
     }
-    Flag::Of(b == 1, next)
+    Some((b == 1, next))
 }
 
 // "A high and a low 64-bit word."
-pub fn read_sn(s: &[u8], at: usize) -> Sn
-    ensures { sn_is result ≡ sn_at s.now at }
+#[tactic(auto, unfolding(format::specs::Fields::sn_at))]
+pub fn read_sn(s: &[u8], at: usize) -> Option<(Number, usize)>
+    ensures { had result ≡ sn_at s.now at }
 {
-    let Num64::Of(high, p) = cursor::read_u64(s, at) else {
-        return Sn::Bad;
+    let Some((high, p)) = cursor::read_u64(s, at) else {
+        return None;
     };
-    let Num64::Of(low, next) = cursor::read_u64(s, p) else {
-        return Sn::Bad;
+    let Some((low, next)) = cursor::read_u64(s, p) else {
+        return None;
     };
-    Sn::Of(Number { high, low }, next)
+    Some((Number { high, low }, next))
 }

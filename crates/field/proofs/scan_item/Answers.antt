@@ -1,16 +1,19 @@
-use native.Mathlib.Omega.{arith}
-use Rattle.field.proofs.Laws.{place_short, place_got, place_bad}
-use mathlib.Core.Path.{sym, ◌∙◌}
+use mathlib.Core.Path.{sym, ◌∙◌, ap}
+use Rattle.item.specs.Item.{fits_of}
+use Rattle.field.proofs.Laws.{place_short, place_got, place_bad, first_of}
 use Rattle.field.proofs.scan_item.Goals as goal
 
-pub returns-then-len-at : goal.returns-then-len-at
-returns-then-len-at c = sym (place_short _ _ _ (omega arith))
-
-pub returns-then-len-at-lt33 : goal.returns-then-len-at-lt33
-returns-then-len-at-lt33 c = sym (place_short _ _ _ (omega arith))
+pub returns-in_err-item : goal.returns-in_err-item
+returns-in_err-item c = rw (c.from_residual.ensures, place_short c.args.kind c.args.s.now c.args.at c.in_err-item.ensures)
 
 pub returns-then-fits : goal.returns-then-fits
-returns-then-fits c = sym (place_got _ _ _ (omega arith) (sym c.fits.ensures ∙ c.if-fits.true))
+returns-then-fits c =
+    let a = c.args in
+    let p = c.in_ok-item.ensures in
+    sym (place_got a.kind a.s.now a.at p.0 (ap (fits_of a.kind) (sym (first_of 32 a.s.now a.at _ p.1)) ∙ sym c.fits.ensures ∙ c.if-fits.true))
 
 pub returns-else-fits : goal.returns-else-fits
-returns-else-fits c = sym (place_bad _ _ _ (omega arith) (sym c.fits.ensures ∙ c.if-fits.false))
+returns-else-fits c =
+    let a = c.args in
+    let p = c.in_ok-item.ensures in
+    sym (place_bad a.kind a.s.now a.at p.0 (ap (fits_of a.kind) (sym (first_of 32 a.s.now a.at _ p.1)) ∙ sym c.fits.ensures ∙ c.if-fits.false))
