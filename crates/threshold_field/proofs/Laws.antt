@@ -49,11 +49,11 @@ module _ (s : List ℕ) (n i t p : ℕ) where
   total_end h = let m : n - i ≡ 0 = omega arith in rw m
 
 module _ {A : Type 0} (a : A) (k : ℕ) (s : List ℕ) (at : ℕ) where
-  pub pass_got : at + k ≤ length s → pass_at a k s at ≡ got a (at + k)
+  pass_got : at + k ≤ length s → pass_at a k s at ≡ got a (at + k)
   unfolding pass_at
   pass_got h = simp (le-leb _ _ h)
 
-  pub pass_short : length s < at + k → pass_at a k s at ≡ bad 3
+  pass_short : length s < at + k → pass_at a k s at ≡ bad 3
   unfolding pass_at
   pass_short h = simp (lt-leb _ _ h)
 

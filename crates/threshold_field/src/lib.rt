@@ -11,7 +11,7 @@ use threshold::Threshold;
 use weight::Weight;
 
 // What a scan keeps: the tag, the simple number, how many clauses and weights there are, and where the first size and the first
-// weight stand.
+// weight stand. No enum by the tag: what is copied has the tag that was given, whatever it is (rule 1).
 #[derive(Clone, Copy)]
 pub struct Marks {
     pub tag: u8,
@@ -22,8 +22,7 @@ pub struct Marks {
     pub weights: usize,
 }
 
-// What the sizes come to, at most 16, and the place after them. They are added as they are read: the one that passes 16 ends the
-// reading.
+// What the sizes come to, at most 16, and the place after them. Added as they are read: the one that passes 16 ends the reading.
 #[tactic(auto, using(crate::proofs::Laws::total_more, crate::proofs::Laws::total_many, crate::proofs::Laws::total_stop, crate::proofs::Laws::total_end))]
 fn scan_sizes(s: &[u8], n: usize, first: usize) -> Result<(usize, usize), Refusal>
     ensures result_value { scanned result ≡ total_at s.now n 0 first }
@@ -145,7 +144,7 @@ fn copy_weights(s: &[u8], n: usize, first: usize) -> [Weight; 16]
     weights
 }
 
-// The threshold whose parts stand at the marks, unused places zero: whatever the tag says.
+// The threshold whose parts stand at the marks, unused places zero.
 pub fn copy(s: &[u8], m: Marks) -> Threshold
     ensures { result ≡ threshold_of s.now m }
 {
