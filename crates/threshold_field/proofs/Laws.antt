@@ -1,16 +1,20 @@
 -- Thresholds by their places: the total of the sizes as a loop adds them, arrays as loops fill them, and the threshold by its
 -- places and by its value. Assumes nothing.
---     total-..      what a loop over the sizes has read, and has yet to read
---     pass-..       bytes that are stepped over: where there is room, and where there is not
---     fill-..       an array of 16 before, while and after a loop fills it
+--     total_..      what a loop over the sizes has read, and has yet to read
+--     pass_..       bytes that are stepped over: where there is room, and where there is not
+--     fill_..       an array of 16 that is filled from its place
 --     threshold_values   scanning a threshold and copying it after is reading it
 use mathlib.Core.Path.{◌≡◌, refl, sym, ap, ◌∙◌}
 use mathlib.Core.Bool.{Bool, true, false}
-use mathlib.Core.List.{List, []}
+use mathlib.Core.List.{List, ◌∷◌, ◌++◌, []}
 use Prim.Native.Nat.{ℕ, zero, suc, ◌+◌, ◌*◌, ◌-◌, ◌≤◌, ◌<◌}
+use native.Mathlib.Numerals.{add-one}
 use native.Mathlib.Omega.{arith}
 use lib.Dec.{leb, ltb}
 use lib.ListN.{length, take, drop, get_or, replicate}
+use lib.Seq.{drop-cons}
+use Rattle.std.specs.Int.{w64, from_be_bytes}
+use Rattle.std.proofs.lemmas.List.{drop-replicate}
 use borrow.Author.Tests.{le-leb, lt-leb, leb-true, leb-false, ltb-true}
 use Rattle.lists.specs.Lists.{pick, padded}
 use Rattle.weight.specs.declared.Weight.{Weight}
@@ -18,98 +22,77 @@ use Rattle.threshold.specs.declared.Threshold.{Threshold}
 use Rattle.format.specs.Parse.{Parse, got, bad, bind, byte_at, be_from, num_at, many_at}
 use Rattle.format.specs.Fields.{simple, weighted, sizes_at, total, weight_at, clauses_at, threshold_as, threshold_at}
 use Rattle.cursor.specs.Spans.{mapped, list_of, many_of}
-use Rattle.cursor.proofs.Laws.{num_got, num_short, list-none, list_length, many_over, many_short, many_got, as_is}
+use Rattle.cursor.specs.Cursor.{raw_of}
+use Rattle.cursor.proofs.Laws.{be_8, raw_got, num_got, num_short, list-none, list_length, many_over, many_short, many_got, as_is}
 use Rattle.threshold_field.specs.declared.Marks.{Marks}
 use Rattle.threshold_field.specs.ThresholdField.{total_at, pass_at, weighted_marks, weighted_at, marks_as, marks_at, byte_of, weight_of, sizes_of, weights_of, threshold_of}
 
 -- ---- sizes as a loop adds them: i of n are read and come to t, and the next stands at p
-module _ (s : List ℕ) (n i t p : ℕ) (x : Parse ℕ) (e : x ≡ total_at s (n - i) t p) where
+module _ (s : List ℕ) (n i t p : ℕ) where
   left : i < n → n - i ≡ suc (n - (i + 1))
   left h = omega arith
 
-  pub total_more : {z q : ℕ} → i < n → byte_at s p ≡ got z q → t + z ≤ 16 → x ≡ total_at s (n - (i + 1)) (t + z) q
+  pub total_more : {z q : ℕ} → got z q ≡ byte_at s p → i < n → t + z ≤ 16 → total_at s (n - i) t p ≡ total_at s (n - (i + 1)) (t + z) q
   unfolding total_at
-  total_more {z} {q} h b k = e ∙ rw (left h) (rw (b, le-leb (t + z) 16 k))
+  total_more {z} {q} b h k = rw (left h, ← b, le-leb (t + z) 16 k)
 
-  pub total_many : {z q : ℕ} → i < n → byte_at s p ≡ got z q → 16 < t + z → x ≡ bad 4
+  pub total_many : {z q : ℕ} → got z q ≡ byte_at s p → i < n → 16 < t + z → total_at s (n - i) t p ≡ bad 4
   unfolding total_at
-  total_many {z} {q} h b k = e ∙ rw (left h) (rw (b, lt-leb (t + z) 16 k))
+  total_many {z} {q} b h k = rw (left h, ← b, lt-leb (t + z) 16 k)
 
-  pub total_stop : {r : ℕ} → i < n → byte_at s p ≡ bad r → x ≡ bad r
+  pub total_stop : {r : ℕ} → bad r ≡ byte_at s p → i < n → total_at s (n - i) t p ≡ bad r
   unfolding total_at
-  total_stop h b = e ∙ rw (left h) (rw b)
+  total_stop b h = rw (left h, ← b)
 
-  pub total-end : n ≤ i → x ≡ got t p
+  pub total_end : n ≤ i → total_at s (n - i) t p ≡ got t p
   unfolding total_at
-  total-end h = let m : n - i ≡ 0 = omega arith in e ∙ rw m
+  total_end h = let m : n - i ≡ 0 = omega arith in rw m
 
 module _ {A : Type 0} (a : A) (k : ℕ) (s : List ℕ) (at : ℕ) where
-  pub pass_got : at + k ≤ length s → pass_at a k s at ≡ got a (at + k)
+  pass_got : at + k ≤ length s → pass_at a k s at ≡ got a (at + k)
   unfolding pass_at
   pass_got h = simp (le-leb _ _ h)
 
-  pub pass_short : length s < at + k → pass_at a k s at ≡ bad 3
+  pass_short : length s < at + k → pass_at a k s at ≡ bad 3
   unfolding pass_at
   pass_short h = simp (lt-leb _ _ h)
-
--- ---- a tag above 1
-pub marks_other : (tag : ℕ) (s : List ℕ) (at : ℕ) → (tag ≡ 0 → ⊥) → (tag ≡ 1 → ⊥) → marks_as tag s at ≡ bad 3
-unfolding marks_as
-marks_other zero s at a b = absurd (a refl)
-marks_other (suc zero) s at a b = absurd (b refl)
-marks_other (suc (suc n)) s at a b = refl
 
 -- ---- arrays of 16
 module _ {A : Type 0} (f : ℕ → A) (w : ℕ) (z : A) (s : List ℕ) (n p : ℕ) where
   pub fill_none : replicate 16 z ≡ padded 16 z (list_of f w 0 p)
   fill_none = rw (list-none f w p)
 
-  pub fill-over : 16 < n → replicate 16 z ≡ padded 16 z (many_of f w 16 s n p)
-  fill-over h = rw (many_over f w 16 s n p h)
+  pub fill_over : 16 < n → replicate 16 z ≡ padded 16 z (many_of f w 16 s n p)
+  fill_over h = rw (many_over f w 16 s n p h)
 
-  pub fill-short : n ≤ 16 → length s < p + n * w → replicate 16 z ≡ padded 16 z (many_of f w 16 s n p)
-  fill-short h k = rw (many_short f w 16 s n p h k)
+  pub fill_short : n ≤ 16 → length s < p + n * w → replicate 16 z ≡ padded 16 z (many_of f w 16 s n p)
+  fill_short h k = rw (many_short f w 16 s n p h k)
 
-  pub fill-all : (i : ℕ) (l : List A) → n ≤ 16 → p + n * w ≤ length s → i ≡ n → l ≡ padded 16 z (list_of f w i p)
+  pub fill_all : (i : ℕ) (l : List A) → n ≤ 16 → p + n * w ≤ length s → i ≡ n → l ≡ padded 16 z (list_of f w i p)
       → l ≡ padded 16 z (many_of f w 16 s n p)
-  fill-all i l h k e r = rw (many_got f w 16 s n p h k, ← e) r
+  fill_all i l h k e r = rw (many_got f w 16 s n p h k, ← e) r
+
+-- bytes one by one are a run of bytes
+bytes_run : (s : List ℕ) (n p : ℕ) → p + n ≤ length s → list_of (byte_of s) 1 n p ≡ take n (drop p s)
+unfolding list_of
+bytes_run s zero p h = refl
+bytes_run s (suc n) p h =
+    let k : p < length s = omega arith in
+    rw (drop-cons s p 0 k, bytes_run s n (p + 1) (omega arith), add-one p)
+
+pub fill_bytes : (s : List ℕ) (n p : ℕ) (x : List ℕ) → n ≤ 16 → p + n ≤ length s → x ≡ take n (drop p s) → x ++ drop n (replicate 16 0) ≡ sizes_of s n p
+fill_bytes s n p x h k e =
+    let r : p + n * 1 ≤ length s = omega arith in
+    rw (many_got (byte_of s) 1 16 s n p h r, list_length (byte_of s) 1 n p, bytes_run s n p k, drop-replicate {X = ℕ} n 16 0, e)
 
 -- ---- a weight at a place
-made : {a b c d : ℕ} → a ≡ c → b ≡ d → ◌≡◌ {A = Weight} (record { num = a; den = b }) (record { num = c; den = d })
-made e f = cc
-
-module _ (s : List ℕ) (at : ℕ) (h : at + 8 ≤ length s) where
-  number_is : {v q : ℕ} → num_at 8 s at ≡ got v q → (v ≡ be_from 0 (take 8 (drop at s))) × (q ≡ at + 8)
-  number_is {v} {q} e =
-      let g : got (be_from 0 (take 8 (drop at s))) (at + 8) ≡ got v q = sym (num_got 8 s at h) ∙ e in
-      let a : v ≡ be_from 0 (take 8 (drop at s)) = cc in
-      let b : q ≡ at + 8 = cc in
-      (a, b)
-
-  pub number_there : {A : Type 0} → num_at 8 s at ≡ bad 3 → A
-  number_there e =
-      let g : got (be_from 0 (take 8 (drop at s))) (at + 8) ≡ bad 3 = sym (num_got 8 s at h) ∙ e in
-      let z : ◌≡◌ {A = ℕ} 0 1 = cc in
-      absurd (omega arith)
-
-module _ (s : List ℕ) (at : ℕ) (h : at + 16 ≤ length s) {v m : ℕ} (e : num_at 8 s at ≡ got v m) where
-  pub middle : m ≡ at + 8
-  middle = (number_is s at (omega arith) e).1
-
-  pub weight_is : {d q : ℕ} → num_at 8 s m ≡ got d q → ◌≡◌ {A = Weight} (record { num = v; den = d }) (weight_of s at)
-  unfolding weight_of
-  weight_is {d} {q} g =
-      let j : num_at 8 s (at + 8) ≡ got d q = rw middle at g in
-      made (number_is s at (omega arith) e).0 (number_is s (at + 8) (omega arith) j).0
-
--- ---- the whole
-pub copy_is : (s : List ℕ) (m : Marks) {z : List ℕ} {w : List Weight} → z ≡ sizes_of s m.clauses m.sizes → w ≡ weights_of s m.total m.weights
-    → ◌≡◌ {A = Threshold} (record { tag = m.tag; simple = m.simple; clauses = m.clauses; sizes = z; weights = w }) (threshold_of s m)
-copy_is s m e f = rw (e, f)
-
-pub marks_by : (s : List ℕ) (at : ℕ) {tag p : ℕ} → byte_at s at ≡ got tag p → (k : ℕ) → tag ≡ k → marks_at s at ≡ marks_as k s p
-unfolding marks_at
-marks_by s at e k f = rw (e, f)
+pub weight_is : (s : List ℕ) (at : ℕ) (a b : List ℕ) → at + 16 ≤ length s → a ≡ raw_of 8 s at → b ≡ raw_of 8 s (at + 8) → length a ≡ 8 → length b ≡ 8
+    → ◌≡◌ {A = Weight} (record { num = from_be_bytes w64 a; den = from_be_bytes w64 b }) (weight_of s at)
+unfolding weight_of
+weight_is s at a b h e f m n =
+    let j : at + 8 ≤ length s = omega arith in
+    let k : at + 8 + 8 ≤ length s = omega arith in
+    rw (be_8 a m, be_8 b n, e, f, raw_got 8 s at j, raw_got 8 s (at + 8) k)
 
 -- ---- by values: weights
 module _ (s : List ℕ) where
@@ -189,17 +172,17 @@ module _ (s : List ℕ) where
   abbrev clauses : ℕ → ℕ → Parse Threshold
   clauses n p = bind (sizes_at s n 0 p) (λ sizes q. bind (many_at (weight_at s) (total sizes) q) (λ weights r. got (weighted sizes weights) r))
 
-  abbrev scanned : ℕ → ℕ → Parse Marks
-  scanned n p = bind (total_at s n 0 p) (λ t w. pass_at (weighted_marks n p t w) (t * 16) s w)
+  abbrev span : ℕ → ℕ → Parse Marks
+  span n p = bind (total_at s n 0 p) (λ t w. pass_at (weighted_marks n p t w) (t * 16) s w)
 
-  clauses_values : (n p : ℕ) → n ≤ 16 → p ≤ length s → mapped (threshold_of s) (scanned n p) ≡ clauses n p
+  clauses_values : (n p : ℕ) → n ≤ 16 → p ≤ length s → mapped (threshold_of s) (span n p) ≡ clauses n p
   clauses_values n p h k = go (sizes_values n 0 p k (omega arith))
     where
-      go : Sized n 0 p → mapped (threshold_of s) (scanned n p) ≡ clauses n p
+      go : Sized n 0 p → mapped (threshold_of s) (span n p) ≡ clauses n p
       go (stopped r u v) = rw (u, v)
       go (sized t a i j u v) = by_room (leb (p + n + t * 16) (length s)) refl
         where
-          by_room : (b : Bool) → leb (p + n + t * 16) (length s) ≡ b → mapped (threshold_of s) (scanned n p) ≡ clauses n p
+          by_room : (b : Bool) → leb (p + n + t * 16) (length s) ≡ b → mapped (threshold_of s) (span n p) ≡ clauses n p
           by_room true e =
               let l : p + n + t * 16 ≤ length s = leb-true (p + n + t * 16) (length s) e in
               let m : total (list_of (byte_of s) 1 n p) ≡ t = omega arith in
@@ -216,7 +199,7 @@ module _ (s : List ℕ) where
   weighted_values at = by_room (ltb at (length s)) refl
     where
       counted : (b : Bool) → leb (get_or s at 0) 16 ≡ b → at + 1 ≤ length s
-          → mapped (threshold_of s) (pick b (scanned (get_or s at 0) (at + 1)) (bad 4))
+          → mapped (threshold_of s) (pick b (span (get_or s at 0) (at + 1)) (bad 4))
           ≡ bind (pick b (sizes_at s (get_or s at 0) 0 (at + 1)) (bad 4)) (λ sizes q. bind (many_at (weight_at s) (total sizes) q) (λ weights r. got (weighted sizes weights) r))
       counted true e l = clauses_values (get_or s at 0) (at + 1) (leb-true (get_or s at 0) 16 e) l
       counted false e l = refl

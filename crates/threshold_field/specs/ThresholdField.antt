@@ -1,28 +1,17 @@
 -- A threshold by its places, and the one that stands there. proofs/Laws has that the two together are format's `threshold_at`.
-use Rattle.std.specs.Prelude.{ℕ, zero, suc, ◌+◌, ◌*◌, ◌≤◌, List, leb, length, take, drop, get_or}
+use Rattle.std.specs.Prelude.{ℕ, zero, suc, ◌+◌, ◌*◌, ◌≤◌, List, Result, Ok, Err, leb, length, take, drop, get_or}
 use Rattle.lists.specs.Lists.{pick, padded}
+use Rattle.answer.specs.declared.Refusal.{Refusal}
 use Rattle.weight.specs.declared.Weight.{Weight}
 use Rattle.threshold.specs.declared.Threshold.{Threshold}
 use Rattle.format.specs.Parse.{Parse, got, bad, bind, ◌>>=◌, byte_at, be_from, num_at}
 use Rattle.cursor.specs.Spans.{many_of}
 use Rattle.threshold_field.specs.declared.Marks.{Marks}
-use Rattle.threshold_field.specs.declared.Marked.{Marked}
-use Rattle.threshold_field.specs.declared.Marked.TheVariants as M
-use Rattle.threshold_field.specs.declared.Total.{Total}
-use Rattle.threshold_field.specs.declared.Total.TheVariants as T
-
-abbrev pub marked_is : Marked → Parse Marks
-marked_is (M.Of m q) = got m q
-marked_is (M.No r) = bad r
-
-abbrev pub total_is : Total → Parse ℕ
-total_is (T.Of t q) = got t q
-total_is (T.No r) = bad r
 
 -- a total that was had is at most 16
-abbrev pub Small : Total → Type 0
-Small (T.Of t q) = t ≤ 16
-Small (T.No r) = Unit
+abbrev pub Small : Result (ℕ × ℕ) Refusal → Type 0
+Small (Ok p) = p.0 ≤ 16
+Small (Err r) = Unit
 
 -- n size bytes, behind sizes that come to `sum`: what all come to, or 4 "at the size byte that passes 16"
 unfoldable pub total_at : List ℕ → ℕ → ℕ → ℕ → Parse ℕ
