@@ -6,7 +6,7 @@
 --     firsts_in, firsts-, list- the positions of a list's first ones, one more signature, and a step of the search among them
 --     places-48, good, packed-signatures   how many places a list has; one of the right shape is its signatures, packed
 use mathlib.Core.Path.{◌≡◌, refl, sym, ap, ◌∙◌}
-use mathlib.Core.Bool.{Bool, true, false}
+use mathlib.Core.Bool.{Bool, true, false, beq, ◌&&◌}
 use mathlib.Core.List.{List, [], ◌∷◌, ◌++◌, append-nil, append_assoc}
 use Prim.Native.Nat.{ℕ, ◌+◌, ◌<◌, ◌≤◌}
 use native.Mathlib.Nat.{le_antisymm, le_trans}
@@ -18,8 +18,10 @@ use lib.Seq.{take-suc, take_all}
 use borrow.Author.Tests.{eqb-true, leb-true}
 use mir.Val.{Val}
 use denote.Laws.{Is}
+use Rattle.std.specs.Prelude.{nat_eq}
+use Rattle.std.specs.Cmp.Lexicographic.{pointwise}
+use Rattle.std.specs.List.{list_all}
 use Rattle.lists.specs.Lists.{pick, both, either, any, all, same_numbers}
-use Rattle.lists.specs.declared.Found.TheVariants.{At, Nothing}
 use Rattle.lists.proofs.Facts.{both_true, both_assoc, both_in, picks, same-numbers, clash}
 use Rattle.lists.proofs.Padding.{is_padded}
 use Rattle.places.specs.Places.{set_of, with_place}
@@ -30,7 +32,7 @@ use Rattle.verification.specs.declared.Siger.{Siger}
 use Rattle.verification.specs.declared.Sigers.{Sigers}
 use Rattle.verification.specs.declared.Counted.{Counted}
 use Rattle.verification.specs.Verification.{signatures, same_flag, same_wire, firsts, signs_at, exposes_at, verified_at, exposed_at, counted_of}
-use Rattle.verification.specs.Verification.{place_within, exposed_with, counted_with, no_siger, ondex_fits, zero_siger, packed_sigers, shape_of}
+use Rattle.verification.specs.Verification.{exposed_with, counted_with, no_siger, ondex_fits, zero_siger, packed_sigers, shape_of}
 use Rattle.verification.specs.contracts.Sigers.{the_row}
 
 -- the element that an array of signatures has past its end, as Rattle has it
@@ -41,70 +43,31 @@ blank = record { code = 0; index = record { 0 = 0 }; dual = false; ondex = recor
 pub places-48 : (l : Sigers) (vs : List Val) → Is the_row l vs → length l.at ≡ 48
 places-48 l vs p = p.1.1.1.0.1.0.1
 
--- ---- tests
-both_left : (a b : Bool) → a ≡ false → both a b ≡ false
-both_left a b e = rw e
+-- ---- equality as the code writes it
+and_both : (a b : Bool) → (a && b) ≡ both a b
+and_both true b = refl
+and_both false b = refl
 
-both_right : (a b : Bool) → b ≡ false → both a b ≡ false
-both_right true b e = e
-both_right false b e = refl
+pub flags_equal : (a b : Bool) → beq a b ≡ same_flag a b
+flags_equal true true = refl
+flags_equal true false = refl
+flags_equal false true = refl
+flags_equal false false = refl
 
--- ---- a place within a list
-module _ (k n : ℕ) where
-  pub within_at : (p : ℕ) → place_within k n ≡ At p → (p ≡ k) × (ltb k n ≡ true)
-  unfolding place_within
-  within_at p = by_test (ltb k n) refl
-    where
-      by_test : (b : Bool) → ltb k n ≡ b → pick b (At k) Nothing ≡ At p → (p ≡ k) × (b ≡ true)
-      by_test true e f = (let g : p ≡ k = cc in g, refl)
-      by_test false e f = let z : ◌≡◌ {A = ℕ} 0 1 = cc in absurd (omega arith)
+pub same_raw : (xs ys : List ℕ) → pointwise nat_eq xs ys ≡ same_numbers xs ys
+unfolding same_numbers
+same_raw [] [] = refl
+same_raw [] (y ∷ ys) = refl
+same_raw (x ∷ xs) [] = refl
+same_raw (x ∷ xs) (y ∷ ys) = rw (same_raw xs ys) (and_both (eqb x y) (same_numbers xs ys))
 
-  within_none : place_within k n ≡ Nothing → ltb k n ≡ false
-  unfolding place_within
-  within_none = by_test (ltb k n)
-    where
-      by_test : (b : Bool) → pick b (At k) Nothing ≡ Nothing → b ≡ false
-      by_test true f = let z : ◌≡◌ {A = ℕ} 0 1 = cc in absurd (omega arith)
-      by_test false f = refl
+pub list_all_is : {A : Type 0} (f : A → Bool) (xs : List A) → list_all f xs ≡ all f xs
+unfolding all
+list_all_is f [] = refl
+list_all_is f (x ∷ xs) = rw (list_all_is f xs) (and_both (f x) (all f xs))
 
--- ---- the ways through the step
 made : {v w x y : ℕ} → v ≡ w → x ≡ y → ◌≡◌ {A = Counted} (record { verified = v; exposed = x }) (record { verified = w; exposed = y })
 made e f = cc
-
-module _ (next set : ℕ) (s : Siger) where
-  pub exposed_off : s.dual ≡ false → set ≡ exposed_with next set s
-  unfolding exposed_with
-  exposed_off e = rw (both_left s.dual (both (ltb s.ondex.0 next) s.matches) e)
-
-  pub exposed_past : place_within s.ondex.0 next ≡ Nothing → set ≡ exposed_with next set s
-  unfolding exposed_with
-  exposed_past e = rw (both_right s.dual _ (both_left _ s.matches (within_none s.ondex.0 next e)))
-
-  pub exposed-not : s.matches ≡ false → set ≡ exposed_with next set s
-  unfolding exposed_with
-  exposed-not e = rw (both_right s.dual _ (both_right (ltb s.ondex.0 next) _ e))
-
-  pub exposed_in : (p : ℕ) → s.dual ≡ true → place_within s.ondex.0 next ≡ At p → s.matches ≡ true → with_place set p ≡ exposed_with next set s
-  unfolding exposed_with
-  exposed_in p d e m =
-      let f = within_at s.ondex.0 next p e in
-      rw (both_in s.dual _ d (both_in (ltb s.ondex.0 next) _ f.1 m)) (ap (with_place set) f.0)
-
-module _ (keys next : ℕ) (c : Counted) (s : Siger) where
-  pub counted_off : s.verified ≡ false → c ≡ counted_with keys next c s
-  unfolding counted_with
-  counted_off e = rw (both_left s.verified (ltb s.index.0 keys) e)
-
-  pub counted_past : place_within s.index.0 keys ≡ Nothing → c ≡ counted_with keys next c s
-  unfolding counted_with
-  counted_past e = rw (both_right s.verified _ (within_none s.index.0 keys e))
-
-  pub counted_in_lem : (p v x : ℕ) → s.verified ≡ true → place_within s.index.0 keys ≡ At p → v ≡ with_place c.verified p → x ≡ exposed_with next c.exposed s
-      → record { verified = v; exposed = x } ≡ counted_with keys next c s
-  unfolding counted_with
-  counted_in_lem p v x g e h k =
-      let f = within_at s.index.0 keys p e in
-      rw (both_in s.verified (ltb s.index.0 keys) g f.1) (made (h ∙ ap (with_place c.verified) f.0) k)
 
 -- ---- one more signature
 firsts_more : (before xs : List Siger) (s : Siger) → firsts before (xs ++ (s ∷ [])) ≡ firsts before xs ++ pick (any (same_wire s) (before ++ xs)) [] (s ∷ [])
@@ -178,8 +141,8 @@ module _ (keys next : ℕ) where
 
 -- ---- along an array: one more place, and the end of the used ones
 module _ (keys next : ℕ) (at : List Siger) (i : ℕ) (c : Counted) (h : i < length at) (e : c ≡ counted_of keys next (take i at)) where
-  pub next-copy : any (same_wire (get_or at i blank)) (take i at) ≡ true → c ≡ counted_of keys next (take (i + 1) at)
-  next-copy f = rw (add-one i, take-suc at i blank h) (e ∙ counted-copy keys next (take i at) (get_or at i blank) f)
+  pub next_copy : any (same_wire (get_or at i blank)) (take i at) ≡ true → c ≡ counted_of keys next (take (i + 1) at)
+  next_copy f = rw (add-one i, take-suc at i blank h) (e ∙ counted-copy keys next (take i at) (get_or at i blank) f)
 
   pub next_more : any (same_wire (get_or at i blank)) (take i at) ≡ false → counted_with keys next c (get_or at i blank) ≡ counted_of keys next (take (i + 1) at)
   next_more f = rw (add-one i, take-suc at i blank h, e) (counted_more keys next (take i at) (get_or at i blank) f)
@@ -231,8 +194,8 @@ firsts_in xs i = first_ones same_wire (λ p. get_or xs p blank) (λ p. take p xs
 one_further : (xs : List Siger) (p : ℕ) → p < length xs → take (p + 1) xs ≡ take p xs ++ (get_or xs p blank ∷ [])
 one_further xs p h = rw (add-one p) (take-suc xs p blank h)
 
-pub firsts-none : (xs : List Siger) → firsts_in xs 0 ≡ 0
-firsts-none xs = none_yet_lem same_wire (λ p. get_or xs p blank) (λ p. take p xs)
+pub firsts_none : (xs : List Siger) → firsts_in xs 0 ≡ 0
+firsts_none xs = none_yet_lem same_wire (λ p. get_or xs p blank) (λ p. take p xs)
 
 -- before the first position there is none
 pub none_before : (x : Siger) → any (same_wire x) [] ≡ false
@@ -240,11 +203,11 @@ unfolding any
 none_before x = refl
 
 module _ (xs : List Siger) (i set : ℕ) (e : set ≡ firsts_in xs i) where
-  pub firsts-kept : any (same_wire (get_or xs i blank)) (take i xs) ≡ true → set ≡ firsts_in xs (i + 1)
-  firsts-kept f = e ∙ first-kept same_wire (λ p. get_or xs p blank) (λ p. take p xs) i f
+  pub firsts_kept : any (same_wire (get_or xs i blank)) (take i xs) ≡ true → set ≡ firsts_in xs (i + 1)
+  firsts_kept f = e ∙ first-kept same_wire (λ p. get_or xs p blank) (λ p. take p xs) i f
 
-  pub firsts-with : i < 64 → any (same_wire (get_or xs i blank)) (take i xs) ≡ false → with_first set i ≡ firsts_in xs (i + 1)
-  firsts-with h f = rw e (first_more same_wire (λ p. get_or xs p blank) (λ p. take p xs) i h f)
+  pub firsts_with : i < 64 → any (same_wire (get_or xs i blank)) (take i xs) ≡ false → with_first set i ≡ firsts_in xs (i + 1)
+  firsts_with h f = rw e (first_more same_wire (λ p. get_or xs p blank) (λ p. take p xs) i h f)
 
   module _ (x : Siger) (j : ℕ) (h : j < i) (g : i ≤ length xs) where
     pub list_copy : both (has_first set j) (same_wire x (get_or xs j blank)) ≡ true → any (same_wire x) (take i xs) ≡ true

@@ -1,9 +1,7 @@
 -- Which places a list of signatures speaks for. `dual`: it has an ondex; `verified`, `matches`: its two verdicts, on the
 -- signature and on the digest.
-use Rattle.std.specs.Prelude.{ℕ, List, [], ◌∷◌, ◌++◌, Bool, true, false, eqb, ltb, leb, length, take, drop, replicate}
+use Rattle.std.specs.Prelude.{ℕ, List, [], ◌∷◌, ◌++◌, Bool, true, false, Option, Some, None, eqb, ltb, leb, length, take, drop, replicate}
 use Rattle.lists.specs.Lists.{pick, both, either, any, all, same_numbers, padded}
-use Rattle.lists.specs.declared.Found.{Found}
-use Rattle.lists.specs.declared.Found.TheVariants.{At, Nothing}
 use Rattle.places.specs.Places.{chosen, set_of, with_place}
 use Rattle.verification.specs.declared.Index.{Index}
 use Rattle.verification.specs.declared.Ondex.{Ondex}
@@ -61,13 +59,13 @@ abbrev pub counted_of : ℕ → ℕ → List Siger → Counted
 counted_of keys next sigs = record { verified = set_of 16 (verified_at keys sigs); exposed = set_of 16 (exposed_at keys next sigs) }
 
 -- ---- One at a time. "key lookup takes only the first, commitment lookup only the second"
-unfoldable pub place_within : ℕ → ℕ → Found
-place_within k n = pick (ltb k n) (At k) Nothing
+unfoldable pub place_within : ℕ → ℕ → Option ℕ
+place_within k n = pick (ltb k n) (Some k) None
 
-abbrev pub key_place : Index → ℕ → Found
+abbrev pub key_place : Index → ℕ → Option ℕ
 key_place index keys = place_within index.0 keys
 
-abbrev pub commitment_place : Ondex → ℕ → Found
+abbrev pub commitment_place : Ondex → ℕ → Option ℕ
 commitment_place ondex next = place_within ondex.0 next
 
 -- the sets so far with the places of one more signature: a verified one's commitment, and both where it is no copy
