@@ -1,28 +1,25 @@
 -- Signatures: which are no copies, the sets of places one signature at a time, and lists of the right shape. Assumes nothing.
---     within_at                what a place that was found says
---     exposed-, counted-       the ways through the step; counted-copy, counted_more, counted_none: one more signature in a list
---     next-, used_all, array_all   the same along an array, and the end of its used places
+--     flags_equal, same_raw, list_all_is   what `==` and a chain give, in this repository's words
+--     counted-copy, counted_more, counted_none   one more signature in a list
+--     next_                    the same along an array
 --     wire_trans               what equals a copy equals the one copied
---     firsts_in, firsts-, list- the positions of a list's first ones, one more signature, and a step of the search among them
---     places-48, good, packed-signatures   how many places a list has; one of the right shape is its signatures, packed
+--     firsts_, list_           the positions of a list's first ones, one more signature, and a step of the search among them
+--     good, packed-signatures  what a shape without a fault says; a list of the right shape is its signatures, packed
 use mathlib.Core.Path.{◌≡◌, refl, sym, ap, ◌∙◌}
 use mathlib.Core.Bool.{Bool, true, false, beq, ◌&&◌}
 use mathlib.Core.List.{List, [], ◌∷◌, ◌++◌, append-nil, append_assoc}
 use Prim.Native.Nat.{ℕ, ◌+◌, ◌<◌, ◌≤◌}
-use native.Mathlib.Nat.{le_antisymm, le_trans}
 use native.Mathlib.Numerals.{add-one}
 use native.Mathlib.Omega.{arith}
 use lib.Dec.{eqb, ltb, leb}
-use lib.ListN.{length, length-map, length-take, get_or, take, drop}
-use lib.Seq.{take-suc, take_all}
+use lib.ListN.{length, length-take, get_or, take, drop}
+use lib.Seq.{take-suc}
 use borrow.Author.Tests.{eqb-true, leb-true}
-use mir.Val.{Val}
-use denote.Laws.{Is}
 use Rattle.std.specs.Prelude.{nat_eq}
 use Rattle.std.specs.Cmp.Lexicographic.{pointwise}
 use Rattle.std.specs.List.{list_all}
 use Rattle.lists.specs.Lists.{pick, both, either, any, all, same_numbers}
-use Rattle.lists.proofs.Facts.{both_true, both_assoc, both_in, picks, same-numbers, clash}
+use Rattle.lists.proofs.Facts.{both_true, both_assoc, picks, same-numbers, clash}
 use Rattle.lists.proofs.Padding.{is_padded}
 use Rattle.places.specs.Places.{set_of, with_place}
 use Rattle.places.proofs.Laws.{with, with-set, set_same, set-none, either_false}
@@ -33,15 +30,10 @@ use Rattle.verification.specs.declared.Sigers.{Sigers}
 use Rattle.verification.specs.declared.Counted.{Counted}
 use Rattle.verification.specs.Verification.{signatures, same_flag, same_wire, firsts, signs_at, exposes_at, verified_at, exposed_at, counted_of}
 use Rattle.verification.specs.Verification.{exposed_with, counted_with, no_siger, ondex_fits, zero_siger, packed_sigers, shape_of}
-use Rattle.verification.specs.contracts.Sigers.{the_row}
 
 -- the element that an array of signatures has past its end, as Rattle has it
 abbrev pub blank : Siger
 blank = record { code = 0; index = record { 0 = 0 }; dual = false; ondex = record { 0 = 0 }; raw = []; verified = false; matches = false }
-
--- who owns a list knows that it has 48 places: from `good` for a parameter, from `ok` for a call's result
-pub places-48 : (l : Sigers) (vs : List Val) → Is the_row l vs → length l.at ≡ 48
-places-48 l vs p = p.1.1.1.0.1.0.1
 
 -- ---- equality as the code writes it
 and_both : (a b : Bool) → (a && b) ≡ both a b
@@ -139,19 +131,13 @@ module _ (keys next : ℕ) where
   unfolding verified_at exposed_at firsts any
   counted_none = made (set-none 16) (set-none 16)
 
--- ---- along an array: one more place, and the end of the used ones
+-- ---- along an array: one more place
 module _ (keys next : ℕ) (at : List Siger) (i : ℕ) (c : Counted) (h : i < length at) (e : c ≡ counted_of keys next (take i at)) where
   pub next_copy : any (same_wire (get_or at i blank)) (take i at) ≡ true → c ≡ counted_of keys next (take (i + 1) at)
   next_copy f = rw (add-one i, take-suc at i blank h) (e ∙ counted-copy keys next (take i at) (get_or at i blank) f)
 
   pub next_more : any (same_wire (get_or at i blank)) (take i at) ≡ false → counted_with keys next c (get_or at i blank) ≡ counted_of keys next (take (i + 1) at)
   next_more f = rw (add-one i, take-suc at i blank h, e) (counted_more keys next (take i at) (get_or at i blank) f)
-
-pub used_all : (keys next : ℕ) (at : List Siger) (n i : ℕ) → i ≤ n → n ≤ i → counted_of keys next (take i at) ≡ counted_of keys next (take n at)
-used_all keys next at n i h g = rw (le_antisymm h g)
-
-pub array_all : (keys next : ℕ) (at : List Siger) (n i : ℕ) → i ≤ n → length at ≤ i → counted_of keys next (take i at) ≡ counted_of keys next (take n at)
-array_all keys next at n i h g = rw (take_all i at g, take_all n at (le_trans g h))
 
 -- ---- copies of copies
 record Five (a b c d e : Bool) : Type 0 where
@@ -228,10 +214,6 @@ made_of c i d o r v m = record { code = c; index = record { 0 = i }; dual = d; o
 only_zero : {c i o : ℕ} {d v m : Bool} {r : List ℕ} → 0 ≡ c → 0 ≡ i → d ≡ false → 0 ≡ o → no_siger.raw ≡ r → v ≡ false → m ≡ false
     → made_of c i d o r v m ≡ made_of 0 0 false 0 no_siger.raw false false
 only_zero a b d e f g h = cc
-
--- compared with what `no_siger` gave
-pub zero_wire : (s : Siger) {z : Siger} {b : Bool} → z ≡ no_siger → b ≡ same_wire z s → same_wire no_siger s ≡ b
-zero_wire s e f = sym (f ∙ ap (λ (x : Siger). same_wire x s) e)
 
 pub zero_only : (s : Siger) → zero_siger s ≡ true → s ≡ no_siger
 unfolding same_wire

@@ -7,7 +7,7 @@ ghost use Rattle.lists.specs.Lists.{both};
 ghost use Rattle.answer.specs.Refusal.{fault_of};
 ghost use Rattle.firsts.specs.Firsts.{has_first};
 ghost use Rattle.verification.specs.Verification.{signatures, same_wire, place_within, key_place, commitment_place};
-ghost use Rattle.verification.specs.Verification.{exposed_with, counted_with, counted_of, claimed, no_siger, ondex_fits, zero_siger, shape_of};
+ghost use Rattle.verification.specs.Verification.{exposed_with, counted_with, counted_of, claimed, claim_of, no_siger, ondex_fits, zero_siger, shape_of};
 
 use answer::Refusal;
 
@@ -37,6 +37,20 @@ pub struct Claim {
     pub ondex: Ondex,
     pub verified: bool,
     pub matches: bool,
+}
+
+impl From<Siger> for Claim {
+    ghost from_gives = { λ s c. c ≡ claim_of s };
+
+    fn from(s: Siger) -> Claim {
+        Claim {
+            index: s.index,
+            dual: s.dual,
+            ondex: s.ondex,
+            verified: s.verified,
+            matches: s.matches,
+        }
+    }
 }
 
 #[derive(Clone, Copy)]
@@ -113,14 +127,7 @@ pub fn counted_claim(c: Counted, s: Claim, keys: usize, next: usize) -> Counted
 pub fn counted_with(c: Counted, s: Siger, keys: usize, next: usize) -> Counted
     ensures { result ≡ counted_with keys next c s }
 {
-    let claim = Claim {
-        index: s.index,
-        dual: s.dual,
-        ondex: s.ondex,
-        verified: s.verified,
-        matches: s.matches,
-    };
-    counted_claim(c, claim, keys, next)
+    counted_claim(c, Claim::from(s), keys, next)
 }
 
 // Whether a signature is a copy of an earlier one at a position. Only first ones are compared: what equals a copy equals the one copied.
@@ -131,7 +138,7 @@ pub fn is_copy(set: u64, position: usize, earlier: Siger, s: Siger) -> bool
 }
 
 // One loop for signatures and receipts alike. A copy is looked for in the list itself, at the positions of the first ones.
-#[tactic(auto, using(crate::proofs::Laws::counted_none, crate::proofs::Laws::firsts_none, crate::proofs::Laws::none_before, crate::proofs::Laws::next_copy, crate::proofs::Laws::next_more, crate::proofs::Laws::firsts_kept, crate::proofs::Laws::firsts_with, crate::proofs::Laws::list_copy, crate::proofs::Laws::list_other))]
+#[tactic(auto, using(crate::proofs::Laws::counted_none, crate::proofs::Laws::firsts_none, crate::proofs::Laws::none_before, crate::proofs::Laws::next_more, crate::proofs::Laws::firsts_with))]
 pub fn count(l: Sigers, keys: usize, next: usize) -> Counted
     ensures { result ≡ counted_of keys next (signatures l) }
 {
