@@ -8,11 +8,7 @@ ghost use Rattle.firsts.specs.Firsts.{has_first, with_first};
 pub fn has(set: u64, position: usize) -> bool
     ensures { result ≡ has_first set position }
 {
-    if position < 64 {
-        (set >> position) % 2 == 1
-    } else {
-        false
-    }
+    position < 64 && (set >> position) % 2 == 1
 }
 
 pub fn with(set: u64, position: usize) -> u64

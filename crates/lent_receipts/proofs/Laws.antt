@@ -13,7 +13,7 @@ use native.Mathlib.Nat.{le_antisymm}
 use native.Mathlib.Numerals.{add-one}
 use native.Mathlib.Omega.{arith}
 use lib.ListN.{length, length-take, take, get_or}
-use lib.Seq.{take-suc, take_all}
+use lib.Seq.{take-suc, take_all, get_or-take}
 use borrow.Author.Tests.{le-leb, lt-leb, lt-ltb, le-ltb}
 use Rattle.lists.specs.Lists.{both, any, all}
 use Rattle.lists.proofs.Facts.{both_on, both_assoc}
@@ -25,7 +25,7 @@ use Rattle.verification.specs.declared.Siger.{Siger}
 use Rattle.verification.specs.declared.Sigers.{Sigers}
 use Rattle.verification.specs.declared.Counted.{Counted}
 use Rattle.verification.specs.Verification.{signatures, same_wire, counted_with, counted_of, verified_at, ondex_fits, shape_of}
-use Rattle.verification.proofs.Laws.{blank, counted_none, next-copy, next_more, firsts_in, firsts-none, none_before, firsts-kept, firsts-with, list_copy, list_other, good}
+use Rattle.verification.proofs.Laws.{blank, counted_none, next_copy, next_more, firsts_in, firsts_none, none_before, firsts_kept, firsts_with, list_copy, list_other, good}
 use Rattle.items.specs.Items.{listed}
 use Rattle.authority.specs.declared.Witnessing.{Witnessing}
 use Rattle.authority.specs.Authority.{receipts, witnessed}
@@ -36,25 +36,6 @@ use Rattle.lent_receipts.specs.Receipted.{receipted_from, step_of, none_yet, con
 tally : {n m : ℕ} {c d : Counted} {a b : Bool} → n ≡ m → c ≡ d → a ≡ b
     → ◌≡◌ {A = Tally} (record { firsts = n; counted = c; fits = a }) (record { firsts = m; counted = d; fits = b })
 tally e f g = cc
-
-module _ (witnesses : ℕ) (t : Tally) (s : Siger) (i j : ℕ) {f : Bool} (fit : f ≡ both t.fits (ondex_fits s)) where
-  pub step-copy : j < i → record { firsts = t.firsts; counted = t.counted; fits = f } ≡ step_of witnesses t s i j
-  unfolding step_of
-  step-copy h = rw (lt-ltb j i h) (tally refl refl fit)
-
-  pub step-first : {n : ℕ} {c : Counted} → i ≤ j → n ≡ with_first t.firsts i → c ≡ counted_with witnesses 0 t.counted s
-      → record { firsts = n; counted = c; fits = f } ≡ step_of witnesses t s i j
-  unfolding step_of
-  step-first h e g = rw (le-ltb j i h) (tally e g fit)
-
-module _ (toad : ℕ) (t : Tally) where
-  pub conclude_fault : t.fits ≡ false → refused 3 0 0 ≡ concluded toad t
-  unfolding concluded
-  conclude_fault e = rw e
-
-  pub conclude_good : t.fits ≡ true → receipts toad (places_in t.counted.verified) ≡ concluded toad t
-  unfolding concluded
-  conclude_good e = rw e
 
 -- ---- the tally of a list's first i
 all_more : {A : Type 0} (f : A → Bool) (xs : List A) (x : A) → all f (xs ++ (x ∷ [])) ≡ both (all f xs) (f x)
@@ -68,7 +49,7 @@ module _ (witnesses : ℕ) (xs : List Siger) where
 
   pub tally_none : none_yet ≡ tally_at 0
   unfolding all
-  tally_none = tally (sym (firsts-none xs)) (sym (counted_none witnesses 0)) refl
+  tally_none = tally (sym (firsts_none xs)) (sym (counted_none witnesses 0)) refl
 
   abbrev here : ℕ → Siger
   here i = get_or xs i blank
@@ -77,36 +58,44 @@ module _ (witnesses : ℕ) (xs : List Siger) where
   abbrev pub Unlike : ℕ → ℕ → Type 0
   Unlike i j = any (same_wire (here i)) (take j xs) ≡ false
 
+  -- a receipt against one of those before it, as the search reads it
   abbrev pub copies : Tally → ℕ → ℕ → Bool
-  copies t i j = both (has_first t.firsts j) (same_wire (here i) (here j))
+  copies t i j = both (has_first t.firsts j) (same_wire (here i) (get_or (take i xs) j blank))
 
   pub unlike_none : (i : ℕ) → Unlike i 0
   unlike_none i = none_before (here i)
 
   module _ (short : length xs ≤ 48) (i : ℕ) (in_List : i < length xs) {t : Tally} (so : t ≡ tally_at i) where
-    pub unlike_next : (j : ℕ) → j < i → Unlike i j → false ≡ copies t i j → Unlike i (j + 1)
+    copies_at : (j : ℕ) → j < i → (b : Bool) → b ≡ copies t i j → both (has_first (firsts_in xs i) j) (same_wire (here i) (here j)) ≡ b
+    copies_at j h b e = let same : get_or (take i xs) j blank ≡ get_or xs j blank = get_or-take i xs j blank h in rw same at (sym (e ∙ ap (λ (a : Tally). copies a i j) so))
+
+    before : (j : ℕ) → j < length (take i xs) → j < i
+    before j h = omega (arith, length-take i xs)
+
+    pub unlike_next : (j : ℕ) → j < length (take i xs) → Unlike i j → false ≡ copies t i j → Unlike i (j + 1)
     unlike_next j h u e =
-        let d = sym (e ∙ ap (λ (a : Tally). copies a i j) so) in
-        list_other xs i (firsts_in xs i) refl (here i) j h (omega arith) (omega arith) u d
+        let k : j < i = before j h in
+        list_other xs i (firsts_in xs i) refl (here i) j k (omega arith) (omega arith) u (copies_at j k false e)
 
     fit_more : both (all ondex_fits (take i xs)) (ondex_fits (here i)) ≡ all ondex_fits (take (i + 1) xs)
     fit_more = rw (add-one i, take-suc xs i blank in_List) (sym (all_more ondex_fits (take i xs) (here i)))
 
-    stepped : (j : ℕ) → step_of witnesses t (here i) i j ≡ step_of witnesses (tally_at i) (here i) i j
-    stepped j = ap (λ (a : Tally). step_of witnesses a (here i) i j) so
+    pub copy_step : (j place : ℕ) → place ≡ j → j < length (take i xs) → true ≡ copies t i j → step_of witnesses t (here i) i place ≡ tally_at (i + 1)
+    unfolding step_of
+    copy_step j place p h e =
+        let k : j < i = before j h in
+        let f = list_copy xs i (firsts_in xs i) refl (here i) j k (omega arith) (copies_at j k true e) in
+        rw (so, p, lt-ltb j i k)
+        (tally (firsts_kept xs i (firsts_in xs i) refl f) (next_copy witnesses 0 xs i (counted_of witnesses 0 (take i xs)) in_List refl f) fit_more)
 
-    pub copy_step : (j : ℕ) → j < i → true ≡ copies t i j → step_of witnesses t (here i) i j ≡ tally_at (i + 1)
-    copy_step j h e =
-        let d = sym (e ∙ ap (λ (a : Tally). copies a i j) so) in
-        let f = list_copy xs i (firsts_in xs i) refl (here i) j h (omega arith) d in
-        stepped j ∙ sym (step-copy witnesses (tally_at i) (here i) i j refl h)
-        ∙ tally (firsts-kept xs i (firsts_in xs i) refl f) (next-copy witnesses 0 xs i (counted_of witnesses 0 (take i xs)) in_List refl f) fit_more
-
-    pub first_step : (j : ℕ) → i ≤ j → j ≤ i → Unlike i j → step_of witnesses t (here i) i j ≡ tally_at (i + 1)
-    first_step j h k d =
-        let u : Unlike i i = subst (Unlike i) (le_antisymm k h) d in
-        stepped j ∙ sym (step-first witnesses (tally_at i) (here i) i j refl h refl refl)
-        ∙ tally (firsts-with xs i (firsts_in xs i) refl (omega arith) u) (next_more witnesses 0 xs i (counted_of witnesses 0 (take i xs)) in_List refl u) fit_more
+    pub first_step : (j place : ℕ) → place ≡ i → length (take i xs) ≤ j → j ≤ length (take i xs) → Unlike i j → step_of witnesses t (here i) i place ≡ tally_at (i + 1)
+    unfolding step_of
+    first_step j place p h g d =
+        let k : j ≡ i = omega (arith, length-take i xs) in
+        let u : Unlike i i = subst (Unlike i) k d in
+        let n : i ≤ i = omega arith in
+        rw (so, p, le-ltb i i n)
+        (tally (firsts_with xs i (firsts_in xs i) refl (omega arith) u) (next_more witnesses 0 xs i (counted_of witnesses 0 (take i xs)) in_List refl u) fit_more)
 
 -- ---- the whole answer
 module _ (toad witnesses : ℕ) (xs : List Siger) where

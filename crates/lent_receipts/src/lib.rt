@@ -3,13 +3,12 @@
 #![tactic(auto)]
 
 ghost use Rattle.std.specs.Prelude.{◌≡◌};
-ghost use Rattle.lists.specs.Lists.{both};
-ghost use Rattle.firsts.specs.Firsts.{has_first};
-ghost use Rattle.answer.specs.Answer.{refused};
-ghost use Rattle.verification.specs.Verification.{same_wire, ondex_fits};
+ghost use Rattle.answer.specs.Refusal.{answered};
+ghost use Rattle.places.specs.Places.{places_in};
+ghost use Rattle.authority.specs.Authority.{receipts};
 ghost use Rattle.lent_receipts.specs.Receipted.{step_of, none_yet, concluded, receipted_from};
 
-use answer::Answer;
+use answer::Refusal;
 use verification::{Counted, Siger};
 
 // Of the receipts so far: which positions have first ones, the places that they speak for, and whether every ondex fits its flag.
@@ -23,93 +22,77 @@ struct Tally {
 fn none_yet() -> Tally
     ensures { result ≡ none_yet }
 {
-    let counted = Counted {
-        verified: 0,
-        exposed: 0,
-    };
     Tally {
         firsts: 0,
-        counted,
+        counted: Counted {
+            verified: 0,
+            exposed: 0,
+        },
         fits: true,
-    }
-}
-
-fn is_copy(t: Tally, position: usize, earlier: Siger, s: Siger) -> bool
-    ensures { result ≡ both (has_first t.firsts position) (same_wire s earlier) }
-{
-    verification::is_copy(t.firsts, position, earlier, s)
-}
-
-fn fits_with(so: bool, s: Siger) -> bool
-    ensures { result ≡ both so (ondex_fits s) }
-{
-    if so {
-        verification::ondex_fits(s)
-    } else {
-        false
     }
 }
 
 // The counting step, for the receipt at position i: a copy of the one at j where that is earlier. "Of copies equal in code, index, ondex and raw, the first
 // decides."
+#[tactic(auto, unfolding(crate::specs::Receipted::step_of))]
 fn step(t: Tally, s: Siger, i: usize, j: usize, witnesses: usize) -> Tally
     ensures { result ≡ step_of witnesses t s i j }
 {
-    let fits = fits_with(t.fits, s);
-    let before = t.counted;
+    let fits = t.fits && verification::ondex_fits(s);
     if j < i {
-        return Tally {
-            firsts: t.firsts,
-            counted: before,
-            fits,
-        };
+        return Tally { fits, ..t };
     }
-    let counted = verification::counted_with(before, s, witnesses, 0);
-    let firsts = firsts::with(t.firsts, i);
     Tally {
-        firsts,
-        counted,
+        firsts: firsts::with(t.firsts, i),
+        counted: verification::counted_with(t.counted, s, witnesses, 0),
         fits,
     }
 }
 
-// Shape before the count, and also where toad is 0.
-fn conclude(t: Tally, toad: u32) -> Answer
-    ensures { result ≡ concluded toad t }
+// Stands in for `authority::receipts` until that gives a `Result`: then `conclude` calls it.
+#[tactic(auto, unfolding(authority::specs::Authority::receipts))]
+fn enough(toad: u32, set: u16) -> Result<(), Refusal>
+    ensures { answered result ≡ receipts toad (places_in set) }
 {
-    if !t.fits {
-        return answer::refuse(3, 0, 0);
+    let valid = places::size(set);
+    if toad <= valid {
+        return Ok(());
     }
-    let sets = t.counted;
-    authority::receipts(toad, sets.verified)
+    Err(Refusal::InsufficientWitnessReceipts {
+        valid,
+        required: toad,
+    })
 }
 
-fn too_many() -> Answer
-    ensures { result ≡ refused 4 0 0 }
+// Shape before the count, and also where toad is 0.
+#[tactic(auto, unfolding(crate::specs::Receipted::concluded))]
+fn conclude(t: Tally, toad: u32) -> Result<(), Refusal>
+    ensures { answered result ≡ concluded toad t }
 {
-    answer::refuse(4, 0, 0)
+    if !t.fits {
+        return Err(Refusal::BadField);
+    }
+    enough(toad, t.counted.verified)
 }
 
 // "one entry takes a lent list of signature structs, as `receipted_by` does".
-pub fn receipted_by(toad: u32, witnesses: usize, receipts: &[Siger]) -> Answer
-    ensures { result ≡ receipted_from toad witnesses receipts.now }
+#[tactic(auto, using(crate::proofs::Laws::too_many, crate::proofs::Laws::few_enough, crate::proofs::Laws::tally_none, crate::proofs::Laws::unlike_none, crate::proofs::Laws::unlike_next, crate::proofs::Laws::copy_step, crate::proofs::Laws::first_step))]
+pub fn receipted_by(toad: u32, witnesses: usize, receipts: &[Siger]) -> Result<(), Refusal>
+    ensures { answered result ≡ receipted_from toad witnesses receipts.now }
 {
     if 48 < receipts.len() {
-        return too_many();
+        return Err(Refusal::TooMany);
     }
     let mut t = none_yet();
-    let mut i: usize = 0;
-    while i < receipts.len() {
-        let s = receipts[i];
-        let mut j: usize = 0;
-        while j < i {
-            if is_copy(t, j, receipts[j], s) {
+    for (i, s) in receipts.iter().enumerate() {
+        let mut place = i;
+        for (j, earlier) in receipts[..i].iter().enumerate() {
+            if verification::is_copy(t.firsts, j, *earlier, *s) {
+                place = j;
                 break;
             }
-            j += 1;
         }
-        t = step(t, s, i, j, witnesses);
-        i += 1;
+        t = step(t, *s, i, place, witnesses);
     }
     conclude(t, toad)
 }

@@ -1,26 +1,30 @@
 -- Signatures: which are no copies, the sets of places one signature at a time, and lists of the right shape. Assumes nothing.
---     within_at                what a place that was found says
---     exposed-, counted-       the ways through the step; counted-copy, counted_more, counted_none: one more signature in a list
---     next-, used_all, array_all   the same along an array, and the end of its used places
+--     flags_equal, same_raw, list_all_is   what `==` and a chain give, in this repository's words
+--     counted-copy, counted_more, counted_none   one more signature in a list
+--     next_                    the same along an array
 --     wire_trans               what equals a copy equals the one copied
---     firsts_in, firsts-, list- the positions of a list's first ones, one more signature, and a step of the search among them
---     places-48, good, packed-signatures   how many places a list has; one of the right shape is its signatures, packed
+--     firsts_, list_           the positions of a list's first ones, one more signature, and a step of the search among them
+--     good, packed-signatures  what a shape without a fault says; a list of the right shape is its signatures, packed
 use mathlib.Core.Path.{◌≡◌, refl, sym, ap, ◌∙◌}
-use mathlib.Core.Bool.{Bool, true, false}
+use mathlib.Core.Bool.{Bool, true, false, beq, ◌&&◌}
 use mathlib.Core.List.{List, [], ◌∷◌, ◌++◌, append-nil, append_assoc}
 use Prim.Native.Nat.{ℕ, ◌+◌, ◌<◌, ◌≤◌}
-use native.Mathlib.Nat.{le_antisymm, le_trans}
 use native.Mathlib.Numerals.{add-one}
 use native.Mathlib.Omega.{arith}
 use lib.Dec.{eqb, ltb, leb}
-use lib.ListN.{length, length-map, length-take, get_or, take, drop}
-use lib.Seq.{take-suc, take_all}
+use lib.ListN.{length, length-take, get_or, take, drop}
+use lib.Seq.{take-suc}
 use borrow.Author.Tests.{eqb-true, leb-true}
-use mir.Val.{Val}
-use denote.Laws.{Is}
+use Rattle.std.specs.Prelude.{nat_eq}
+use Rattle.std.specs.Cmp.Lexicographic.{pointwise}
+use Rattle.std.specs.List.{list_all}
 use Rattle.lists.specs.Lists.{pick, both, either, any, all, same_numbers}
+<<<<<<< HEAD
 use Rattle.std.specs.Prelude.{Option, Some, None}
 use Rattle.lists.proofs.Facts.{both_true, both_assoc, both_in, picks, same-numbers, clash}
+=======
+use Rattle.lists.proofs.Facts.{both_true, both_assoc, picks, same-numbers, clash}
+>>>>>>> 4f7c9be041186aeef54398899b0de27ba518b628
 use Rattle.lists.proofs.Padding.{is_padded}
 use Rattle.places.specs.Places.{set_of, with_place}
 use Rattle.places.proofs.Laws.{with, with-set, set_same, set-none, either_false}
@@ -30,25 +34,31 @@ use Rattle.verification.specs.declared.Siger.{Siger}
 use Rattle.verification.specs.declared.Sigers.{Sigers}
 use Rattle.verification.specs.declared.Counted.{Counted}
 use Rattle.verification.specs.Verification.{signatures, same_flag, same_wire, firsts, signs_at, exposes_at, verified_at, exposed_at, counted_of}
-use Rattle.verification.specs.Verification.{place_within, exposed_with, counted_with, no_siger, ondex_fits, zero_siger, packed_sigers, shape_of}
-use Rattle.verification.specs.contracts.Sigers.{the_row}
+use Rattle.verification.specs.Verification.{exposed_with, counted_with, no_siger, ondex_fits, zero_siger, packed_sigers, shape_of}
 
 -- the element that an array of signatures has past its end, as Rattle has it
 abbrev pub blank : Siger
 blank = record { code = 0; index = record { 0 = 0 }; dual = false; ondex = record { 0 = 0 }; raw = []; verified = false; matches = false }
 
--- who owns a list knows that it has 48 places: from `good` for a parameter, from `ok` for a call's result
-pub places-48 : (l : Sigers) (vs : List Val) → Is the_row l vs → length l.at ≡ 48
-places-48 l vs p = p.1.1.1.0.1.0.1
+-- ---- equality as the code writes it
+and_both : (a b : Bool) → (a && b) ≡ both a b
+and_both true b = refl
+and_both false b = refl
 
--- ---- tests
-both_left : (a b : Bool) → a ≡ false → both a b ≡ false
-both_left a b e = rw e
+pub flags_equal : (a b : Bool) → beq a b ≡ same_flag a b
+flags_equal true true = refl
+flags_equal true false = refl
+flags_equal false true = refl
+flags_equal false false = refl
 
-both_right : (a b : Bool) → b ≡ false → both a b ≡ false
-both_right true b e = e
-both_right false b e = refl
+pub same_raw : (xs ys : List ℕ) → pointwise nat_eq xs ys ≡ same_numbers xs ys
+unfolding same_numbers
+same_raw [] [] = refl
+same_raw [] (y ∷ ys) = refl
+same_raw (x ∷ xs) [] = refl
+same_raw (x ∷ xs) (y ∷ ys) = rw (same_raw xs ys) (and_both (eqb x y) (same_numbers xs ys))
 
+<<<<<<< HEAD
 -- ---- a place within a list
 module _ (k n : ℕ) where
   pub within_at : (p : ℕ) → place_within k n ≡ Some p → (p ≡ k) × (ltb k n ≡ true)
@@ -106,6 +116,16 @@ module _ (keys next : ℕ) (c : Counted) (s : Siger) where
       let f = within_at s.index.0 keys p e in
       rw (both_in s.verified (ltb s.index.0 keys) g f.1) (made (h ∙ ap (with_place c.verified) f.0) k)
 
+=======
+pub list_all_is : {A : Type 0} (f : A → Bool) (xs : List A) → list_all f xs ≡ all f xs
+unfolding all
+list_all_is f [] = refl
+list_all_is f (x ∷ xs) = rw (list_all_is f xs) (and_both (f x) (all f xs))
+
+made : {v w x y : ℕ} → v ≡ w → x ≡ y → ◌≡◌ {A = Counted} (record { verified = v; exposed = x }) (record { verified = w; exposed = y })
+made e f = cc
+
+>>>>>>> 4f7c9be041186aeef54398899b0de27ba518b628
 -- ---- one more signature
 firsts_more : (before xs : List Siger) (s : Siger) → firsts before (xs ++ (s ∷ [])) ≡ firsts before xs ++ pick (any (same_wire s) (before ++ xs)) [] (s ∷ [])
 unfolding firsts
@@ -176,19 +196,13 @@ module _ (keys next : ℕ) where
   unfolding verified_at exposed_at firsts any
   counted_none = made (set-none 16) (set-none 16)
 
--- ---- along an array: one more place, and the end of the used ones
+-- ---- along an array: one more place
 module _ (keys next : ℕ) (at : List Siger) (i : ℕ) (c : Counted) (h : i < length at) (e : c ≡ counted_of keys next (take i at)) where
-  pub next-copy : any (same_wire (get_or at i blank)) (take i at) ≡ true → c ≡ counted_of keys next (take (i + 1) at)
-  next-copy f = rw (add-one i, take-suc at i blank h) (e ∙ counted-copy keys next (take i at) (get_or at i blank) f)
+  pub next_copy : any (same_wire (get_or at i blank)) (take i at) ≡ true → c ≡ counted_of keys next (take (i + 1) at)
+  next_copy f = rw (add-one i, take-suc at i blank h) (e ∙ counted-copy keys next (take i at) (get_or at i blank) f)
 
   pub next_more : any (same_wire (get_or at i blank)) (take i at) ≡ false → counted_with keys next c (get_or at i blank) ≡ counted_of keys next (take (i + 1) at)
   next_more f = rw (add-one i, take-suc at i blank h, e) (counted_more keys next (take i at) (get_or at i blank) f)
-
-pub used_all : (keys next : ℕ) (at : List Siger) (n i : ℕ) → i ≤ n → n ≤ i → counted_of keys next (take i at) ≡ counted_of keys next (take n at)
-used_all keys next at n i h g = rw (le_antisymm h g)
-
-pub array_all : (keys next : ℕ) (at : List Siger) (n i : ℕ) → i ≤ n → length at ≤ i → counted_of keys next (take i at) ≡ counted_of keys next (take n at)
-array_all keys next at n i h g = rw (take_all i at g, take_all n at (le_trans g h))
 
 -- ---- copies of copies
 record Five (a b c d e : Bool) : Type 0 where
@@ -231,8 +245,8 @@ firsts_in xs i = first_ones same_wire (λ p. get_or xs p blank) (λ p. take p xs
 one_further : (xs : List Siger) (p : ℕ) → p < length xs → take (p + 1) xs ≡ take p xs ++ (get_or xs p blank ∷ [])
 one_further xs p h = rw (add-one p) (take-suc xs p blank h)
 
-pub firsts-none : (xs : List Siger) → firsts_in xs 0 ≡ 0
-firsts-none xs = none_yet_lem same_wire (λ p. get_or xs p blank) (λ p. take p xs)
+pub firsts_none : (xs : List Siger) → firsts_in xs 0 ≡ 0
+firsts_none xs = none_yet_lem same_wire (λ p. get_or xs p blank) (λ p. take p xs)
 
 -- before the first position there is none
 pub none_before : (x : Siger) → any (same_wire x) [] ≡ false
@@ -240,11 +254,11 @@ unfolding any
 none_before x = refl
 
 module _ (xs : List Siger) (i set : ℕ) (e : set ≡ firsts_in xs i) where
-  pub firsts-kept : any (same_wire (get_or xs i blank)) (take i xs) ≡ true → set ≡ firsts_in xs (i + 1)
-  firsts-kept f = e ∙ first-kept same_wire (λ p. get_or xs p blank) (λ p. take p xs) i f
+  pub firsts_kept : any (same_wire (get_or xs i blank)) (take i xs) ≡ true → set ≡ firsts_in xs (i + 1)
+  firsts_kept f = e ∙ first-kept same_wire (λ p. get_or xs p blank) (λ p. take p xs) i f
 
-  pub firsts-with : i < 64 → any (same_wire (get_or xs i blank)) (take i xs) ≡ false → with_first set i ≡ firsts_in xs (i + 1)
-  firsts-with h f = rw e (first_more same_wire (λ p. get_or xs p blank) (λ p. take p xs) i h f)
+  pub firsts_with : i < 64 → any (same_wire (get_or xs i blank)) (take i xs) ≡ false → with_first set i ≡ firsts_in xs (i + 1)
+  firsts_with h f = rw e (first_more same_wire (λ p. get_or xs p blank) (λ p. take p xs) i h f)
 
   module _ (x : Siger) (j : ℕ) (h : j < i) (g : i ≤ length xs) where
     pub list_copy : both (has_first set j) (same_wire x (get_or xs j blank)) ≡ true → any (same_wire x) (take i xs) ≡ true
@@ -265,10 +279,6 @@ made_of c i d o r v m = record { code = c; index = record { 0 = i }; dual = d; o
 only_zero : {c i o : ℕ} {d v m : Bool} {r : List ℕ} → 0 ≡ c → 0 ≡ i → d ≡ false → 0 ≡ o → no_siger.raw ≡ r → v ≡ false → m ≡ false
     → made_of c i d o r v m ≡ made_of 0 0 false 0 no_siger.raw false false
 only_zero a b d e f g h = cc
-
--- compared with what `no_siger` gave
-pub zero_wire : (s : Siger) {z : Siger} {b : Bool} → z ≡ no_siger → b ≡ same_wire z s → same_wire no_siger s ≡ b
-zero_wire s e f = sym (f ∙ ap (λ (x : Siger). same_wire x s) e)
 
 pub zero_only : (s : Siger) → zero_siger s ≡ true → s ≡ no_siger
 unfolding same_wire

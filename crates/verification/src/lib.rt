@@ -1,19 +1,26 @@
 // Signatures, and the places that they speak for: an index finds a key, an ondex a commitment, and neither the other.
 #![tactic(auto)]
 
-ghost use Rattle.std.specs.Prelude.{◌≡◌, drop};
-ghost use Rattle.lists.specs.Lists.{both, all, same_numbers};
+ghost use Rattle.std.specs.Prelude.{◌≡◌};
+ghost use Rattle.std.specs.List.{list_all};
+ghost use Rattle.lists.specs.Lists.{both};
+ghost use Rattle.answer.specs.Refusal.{fault_of};
 ghost use Rattle.firsts.specs.Firsts.{has_first};
-ghost use Rattle.verification.specs.Verification.{signatures, same_flag, same_wire, place_within, key_place, commitment_place};
-ghost use Rattle.verification.specs.Verification.{exposed_with, counted_with, counted_of, claimed, no_siger, ondex_fits, zero_siger, shape_of};
+ghost use Rattle.verification.specs.Verification.{signatures, same_wire, place_within, key_place, commitment_place};
+ghost use Rattle.verification.specs.Verification.{exposed_with, counted_with, counted_of, claimed, claim_of, no_siger, ondex_fits, zero_siger, shape_of};
 
+<<<<<<< HEAD
+=======
+use answer::Refusal;
+>>>>>>> 4f7c9be041186aeef54398899b0de27ba518b628
 
-#[derive(Clone, Copy)]
+#[derive(Clone, Copy, PartialEq, Eq)]
 pub struct Index(pub u32);
 
-#[derive(Clone, Copy)]
+#[derive(Clone, Copy, PartialEq, Eq)]
 pub struct Ondex(pub u32);
 
+// An ondex beside its flag: a record may hold a number without the flag, which is answered with 3, and `Option<Ondex>` could not say it.
 #[derive(Clone, Copy)]
 pub struct Siger {
     pub code: u8,
@@ -26,13 +33,27 @@ pub struct Siger {
 }
 
 // What a signature says without its bytes: the places that it names, and its verdicts.
-#[derive(Clone, Copy)]
+#[derive(Clone, Copy, PartialEq, Eq)]
 pub struct Claim {
     pub index: Index,
     pub dual: bool,
     pub ondex: Ondex,
     pub verified: bool,
     pub matches: bool,
+}
+
+impl From<Siger> for Claim {
+    ghost from_gives = { λ s c. c ≡ claim_of s };
+
+    fn from(s: Siger) -> Claim {
+        Claim {
+            index: s.index,
+            dual: s.dual,
+            ondex: s.ondex,
+            verified: s.verified,
+            matches: s.matches,
+        }
+    }
 }
 
 #[derive(Clone, Copy)]
@@ -42,65 +63,41 @@ pub struct Sigers {
 }
 
 // Places of verified keys and of exposed commitments.
-#[derive(Clone, Copy)]
+#[derive(Clone, Copy, PartialEq, Eq)]
 pub struct Counted {
     pub verified: u16,
     pub exposed: u16,
 }
 
-fn same_flag(a: bool, b: bool) -> bool
-    ensures { result ≡ same_flag a b }
-{
-    if a { b } else { !b }
-}
-
-fn same_raw(x: [u8; 64], y: [u8; 64]) -> bool
-    ensures { result ≡ same_numbers x y }
-{
-    let mut i: usize = 0;
-    while i < 64 {
-        if x[i] != y[i] {
-            return false;
-        }
-        i += 1;
-    }
-    true
-}
-
 // Copies are equal in code, index, ondex and raw; their verdicts may differ.
+#[tactic(auto, using(crate::proofs::Laws::same_raw, crate::proofs::Laws::flags_equal), unfolding(crate::specs::Verification::same_wire))]
 pub fn same_wire(a: Siger, b: Siger) -> bool
     ensures { result ≡ same_wire a b }
 {
-    if a.code != b.code {
-        return false;
-    }
-    let ai = a.index;
-    let bi = b.index;
-    if ai.0 != bi.0 {
-        return false;
-    }
-    if !same_flag(a.dual, b.dual) {
-        return false;
-    }
-    let ao = a.ondex;
-    let bo = b.ondex;
-    if ao.0 != bo.0 {
-        return false;
-    }
-    let x = a.raw;
-    let y = b.raw;
-    same_raw(x, y)
+    a.code == b.code
+        && a.index == b.index
+        && a.dual == b.dual
+        && a.ondex == b.ondex
+        && a.raw == b.raw
 }
 
+<<<<<<< HEAD
+=======
+#[tactic(auto, unfolding(crate::specs::Verification::place_within))]
+>>>>>>> 4f7c9be041186aeef54398899b0de27ba518b628
 fn within(place: u32, n: usize) -> Option<usize>
     ensures { result ≡ place_within place n }
 {
     let at = place as usize;
+<<<<<<< HEAD
     if at < n {
         Some(at)
     } else {
         None
     }
+=======
+    (at < n).then_some(at)
+>>>>>>> 4f7c9be041186aeef54398899b0de27ba518b628
 }
 
 pub fn key_place(index: Index, keys: usize) -> Option<usize>
@@ -116,9 +113,11 @@ pub fn commitment_place(ondex: Ondex, next: usize) -> Option<usize>
 }
 
 // The exposed places with that of a verified signature, where it has an ondex within the commitments and its digest agrees.
+#[tactic(auto, unfolding(crate::specs::Verification::exposed_with, crate::specs::Verification::place_within))]
 fn exposed_with(set: u16, s: Claim, next: usize) -> u16
     ensures { result ≡ exposed_with next set (claimed s) }
 {
+<<<<<<< HEAD
     let ondex = s.ondex;
     if !s.dual {
         return set;
@@ -130,13 +129,20 @@ fn exposed_with(set: u16, s: Claim, next: usize) -> u16
         places::with_place(set, place as u32)
     } else {
         set
+=======
+    match commitment_place(s.ondex, next) {
+        Some(place) if s.dual && s.matches => places::with_place(set, place as u32),
+        _ => set,
+>>>>>>> 4f7c9be041186aeef54398899b0de27ba518b628
     }
 }
 
 // The places so far with those of one more signature that is no copy: of its bytes nothing is asked.
+#[tactic(auto, unfolding(crate::specs::Verification::counted_with, crate::specs::Verification::place_within))]
 pub fn counted_claim(c: Counted, s: Claim, keys: usize, next: usize) -> Counted
     ensures { result ≡ counted_with keys next c (claimed s) }
 {
+<<<<<<< HEAD
     let index = s.index;
     if !s.verified {
         return c;
@@ -149,62 +155,50 @@ pub fn counted_claim(c: Counted, s: Claim, keys: usize, next: usize) -> Counted
     Counted {
         verified: verified,
         exposed: exposed,
+=======
+    match key_place(s.index, keys) {
+        Some(place) if s.verified => Counted {
+            verified: places::with_place(c.verified, place as u32),
+            exposed: exposed_with(c.exposed, s, next),
+        },
+        _ => c,
+>>>>>>> 4f7c9be041186aeef54398899b0de27ba518b628
     }
 }
 
+#[tactic(auto, unfolding(crate::specs::Verification::counted_with, crate::specs::Verification::exposed_with))]
 pub fn counted_with(c: Counted, s: Siger, keys: usize, next: usize) -> Counted
     ensures { result ≡ counted_with keys next c s }
 {
-    let index = s.index;
-    let ondex = s.ondex;
-    let claim = Claim {
-        index,
-        dual: s.dual,
-        ondex,
-        verified: s.verified,
-        matches: s.matches,
-    };
-    counted_claim(c, claim, keys, next)
+    counted_claim(c, Claim::from(s), keys, next)
 }
 
 // Whether a signature is a copy of an earlier one at a position. Only first ones are compared: what equals a copy equals the one copied.
 pub fn is_copy(set: u64, position: usize, earlier: Siger, s: Siger) -> bool
     ensures { result ≡ both (has_first set position) (same_wire s earlier) }
 {
-    if !firsts::has(set, position) {
-        return false;
-    }
-    same_wire(s, earlier)
+    firsts::has(set, position) && same_wire(s, earlier)
 }
 
 // One loop for signatures and receipts alike. A copy is looked for in the list itself, at the positions of the first ones.
+#[tactic(auto, using(crate::proofs::Laws::counted_none, crate::proofs::Laws::firsts_none, crate::proofs::Laws::none_before, crate::proofs::Laws::next_more, crate::proofs::Laws::firsts_with))]
 pub fn count(l: Sigers, keys: usize, next: usize) -> Counted
     ensures { result ≡ counted_of keys next (signatures l) }
 {
-    let n = l.count;
     let mut c = Counted {
         verified: 0,
         exposed: 0,
     };
     let mut set: u64 = 0;
-    let mut i: usize = 0;
-    'each: while i < 48 {
-        if n <= i {
-            return c;
-        }
+    'each: for i in 0..l.count.min(48) {
         let s = l.at[i];
-        let mut j: usize = 0;
-        while j < i {
-            let earlier = l.at[j];
-            if is_copy(set, j, earlier, s) {
-                i += 1;
+        for j in 0..i {
+            if is_copy(set, j, l.at[j], s) {
                 continue 'each;
             }
-            j += 1;
         }
         c = counted_with(c, s, keys, next);
         set = firsts::with(set, i);
-        i += 1;
     }
     c
 }
@@ -226,67 +220,39 @@ pub fn no_siger() -> Siger
 fn is_zero(s: Siger) -> bool
     ensures { result ≡ zero_siger s }
 {
-    let z = no_siger();
-    if !same_wire(z, s) {
-        return false;
-    }
-    if !same_flag(false, s.verified) {
-        return false;
-    }
-    same_flag(false, s.matches)
-}
-
-fn ondexes_fit(l: Sigers) -> bool
-    ensures { result ≡ all ondex_fits (signatures l) }
-{
-    let n = l.count;
-    let at = l.at;
-    let mut i: usize = 0;
-    while i < 48 {
-        if n <= i {
-            return true;
-        }
-        let s = at[i];
-        if !ondex_fits(s) {
-            return false;
-        }
-        i += 1;
-    }
-    true
+    same_wire(no_siger(), s) && !s.verified && !s.matches
 }
 
 // Without an ondex its number is 0.
 pub fn ondex_fits(s: Siger) -> bool
     ensures { result ≡ ondex_fits s }
 {
-    let ondex = s.ondex;
-    if s.dual { true } else { ondex.0 == 0 }
+    s.dual || s.ondex.0 == 0
 }
 
-fn unused_zero(l: Sigers) -> bool
-    ensures { result ≡ all zero_siger (drop l.count l.at) }
+fn ondexes_fit(used: &[Siger]) -> bool
+    ensures { result ≡ list_all ondex_fits used.now }
 {
-    let at = l.at;
-    let mut i = l.count;
-    while i < 48 {
-        let s = at[i];
-        if !is_zero(s) {
-            return false;
-        }
-        i += 1;
-    }
-    true
+    used.iter().all(|s| ondex_fits(*s))
 }
 
-// 0, 4 where the count is above 48, 3 where an ondex does not fit its flag or an unused place is not zero.
-pub fn shape(l: Sigers) -> u8
-    ensures { result ≡ shape_of l }
+fn all_zero(unused: &[Siger]) -> bool
+    ensures { result ≡ list_all zero_siger unused.now }
+{
+    unused.iter().all(|s| is_zero(*s))
+}
+
+// `TooMany` where the count is above 48, `BadField` where an ondex does not fit its flag or an unused place is not zero.
+#[tactic(auto, using(crate::proofs::Laws::list_all_is, std::proofs::lemmas::List::take_rest), unfolding(crate::specs::Verification::shape_of))]
+pub fn shape(l: Sigers) -> Result<(), Refusal>
+    ensures { fault_of result ≡ shape_of l }
 {
     if 48 < l.count {
-        return 4;
+        return Err(Refusal::TooMany);
     }
-    if !ondexes_fit(l) {
-        return 3;
+    if ondexes_fit(&l.at[..l.count]) && all_zero(&l.at[l.count..]) {
+        Ok(())
+    } else {
+        Err(Refusal::BadField)
     }
-    if unused_zero(l) { 0 } else { 3 }
 }
