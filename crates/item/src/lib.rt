@@ -30,6 +30,7 @@ pub enum Kind {
     Said,
 }
 
+#[tactic(auto, unfolding(crate::specs::Item::class_of))]
 pub fn classify(code: u8) -> Class
     ensures { result ≡ class_of code }
 {
@@ -54,7 +55,10 @@ pub fn fits(code: u8, kind: Kind) -> bool
 pub fn is_basic(code: u8) -> bool
     ensures { result ≡ basic_of code }
 {
-    matches!(classify(code), Class::NonTransferableKey | Class::TransferableKey)
+    matches!(
+        classify(code),
+        Class::NonTransferableKey | Class::TransferableKey
+    )
 }
 
 fn is_digest(code: u8) -> bool
