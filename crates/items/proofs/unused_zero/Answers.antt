@@ -1,17 +1,12 @@
-use mathlib.Core.Path.{sym, ◌∙◌}
-use native.Mathlib.Omega.{arith}
-use Rattle.lists.proofs.Walks.{head_of, all_stop, all-next, all_end}
+use Rattle.std.proofs.Common.{rules}
+use Rattle.std.proofs.lemmas.Iterator.{YieldsList-from_slice}
+use Rattle.std.proofs.lemmas.Iterator.Adapters.{YieldsList-from_skip}
+use Rattle.std.proofs.lemmas.Iterator.Search.{all_from_yields_List}
 use Rattle.item.specs.Item.{is_zero}
-use Rattle.items.proofs.Laws.{no_item}
+use Rattle.lists.proofs.Chains.{all_by}
 use Rattle.items.proofs.unused_zero.Goals as goal
 
-pub returns-then-not-is_zero : goal.returns-then-not-is_zero
-returns-then-not-is_zero c = let a = c.args in
-    sym (c.loop-i.invariant.1 ∙ all_stop is_zero a.l.at _ c.loop-i.i (head_of no_item a.l.at c.loop-i.i (omega arith)) (sym c.is_zero.ensures ∙ c.if-not-is_zero.true))
-
-pub loop-i-preserved : goal.loop-i-preserved
-loop-i-preserved c = let a = c.args in
-    (c.loop-i.invariant.0, c.loop-i.invariant.1 ∙ all-next is_zero a.l.at _ c.loop-i.i (head_of no_item a.l.at c.loop-i.i (omega arith)) (sym c.is_zero.ensures ∙ c.if-not-is_zero.false))
-
 pub returns : goal.returns
-returns c = sym (c.loop-i.invariant.1 ∙ all_end is_zero c.args.l.at c.loop-i.i (omega arith))
+returns c =
+    let l = c.args.l in
+    all_by is_zero _ _ (all_from_yields_List is_zero _ _ _ c.all.ensures.ran (YieldsList-from_skip l.count (YieldsList-from_slice l.at cc) cc) (λ x b q k. search rules))

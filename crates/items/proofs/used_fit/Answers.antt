@@ -1,24 +1,18 @@
-use mathlib.Core.Path.{sym, ◌∙◌}
-use native.Mathlib.Omega.{arith}
+use mathlib.Core.Path.{◌≡◌, ◌∙◌, refl}
+use mathlib.Core.Bool.{Bool}
+use lib.ListN.{take}
+use Rattle.std.proofs.Common.{rules}
+use Rattle.std.proofs.iter.runs.Made.{chains}
+use Rattle.std.proofs.lemmas.Iterator.{YieldsList-from_slice, YieldsList-from_take}
+use Rattle.std.proofs.lemmas.Iterator.Search.{all_from_yields_List}
+use Rattle.std.specs.List.{list_all}
 use Rattle.item.specs.Item.{item_fits}
-use Rattle.lists.proofs.Walks.{head_at, used-end, array_end, all_stop, all-next, all_end}
-use Rattle.items.specs.Items.{listed}
-use Rattle.items.proofs.Laws.{no_item}
-use borrow.Author.Rules.{rules}
+use Rattle.lists.proofs.Chains.{all_is}
 use Rattle.items.proofs.used_fit.Goals as goal
 
-pub returns-then-n-i : goal.returns-then-n-i
-returns-then-n-i c = let a = c.args in
-    sym (c.loop-i.invariant.1.1 ∙ all_end (item_fits a.kind) (listed a.l) c.loop-i.i (used-end a.l.at a.l.count c.loop-i.i c.if-n-i.true))
-
-pub returns-then-not-fits : goal.returns-then-not-fits
-returns-then-not-fits c = let a = c.args in
-    sym (c.loop-i.invariant.1.1 ∙ all_stop (item_fits a.kind) (listed a.l) _ c.loop-i.i (head_at no_item a.l.at a.l.count c.loop-i.i (omega arith) (omega arith)) (sym c.fits.ensures ∙ c.if-not-fits.true))
-
-pub loop-i-preserved : goal.loop-i-preserved
-loop-i-preserved c = let a = c.args in
-    (search rules, (c.loop-i.invariant.1.0, c.loop-i.invariant.1.1 ∙ all-next (item_fits a.kind) (listed a.l) _ c.loop-i.i (head_at no_item a.l.at a.l.count c.loop-i.i (omega arith) (omega arith)) (sym c.fits.ensures ∙ c.if-not-fits.false)))
-
 pub returns : goal.returns
-returns c = let a = c.args in
-    sym (c.loop-i.invariant.1.1 ∙ all_end (item_fits a.kind) (listed a.l) c.loop-i.i (array_end a.l.at a.l.count c.loop-i.i (omega arith)))
+returns c =
+    let a = c.args in
+    let e : c.all.result ≡ list_all (item_fits a.kind) (take a.l.count a.l.at) =
+          all_from_yields_List (item_fits a.kind) _ _ _ c.all.ensures.ran (YieldsList-from_take a.l.count (YieldsList-from_slice a.l.at cc) cc) (λ x b q k. search rules) in
+    e ∙ all_is (item_fits a.kind) (take a.l.count a.l.at)
