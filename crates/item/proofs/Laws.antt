@@ -1,11 +1,14 @@
--- Classes of codes, and equality of items. Assumes nothing.
+-- Equality of items. Assumes nothing.
 --     same_item_lem    equal over all 33 bytes is equal; with itself, the other way round; zero_only: only the zero item is zero
 use mathlib.Core.Path.{◌≡◌, refl, sym, ◌∙◌}
 use mathlib.Core.Bool.{Bool, true, false}
 use mathlib.Core.List.{List}
 use Prim.Native.Nat.{ℕ}
 use lib.Dec.{eqb}
-use borrow.Author.Tests.{eqb-true, eq-eqb}
+use lib.ListN.{replicate}
+use Rattle.std.specs.Cmp.Lexicographic.{pointwise}
+use Rattle.lists.proofs.Chains.{same_pointwise}
+use borrow.Author.Tests.{eqb-true, eq-eqb, ne_eqb}
 use Rattle.lists.specs.Lists.{either, same_numbers}
 use Rattle.lists.proofs.Facts.{both_true, both_in, same-numbers, same_refl}
 use Rattle.item.specs.declared.Item.{Item}
@@ -13,13 +16,6 @@ use Rattle.item.specs.declared.Class.{Class}
 use Rattle.item.specs.declared.Class.TheVariants.{NonTransferableKey, TransferableKey, Digest, Bad}
 use Rattle.item.specs.declared.Kind.TheVariants.{Prefix, Said}
 use Rattle.item.specs.Item.{basic_class, fits_class, same_item, zero_item, is_zero}
-
--- a prefix is a basic key or a digest
-pub prefix_class : (c : Class) → fits_class Prefix c ≡ either (basic_class c) (fits_class Said c)
-prefix_class NonTransferableKey = refl
-prefix_class TransferableKey = refl
-prefix_class Digest = refl
-prefix_class Bad = refl
 
 made : {n m : ℕ} {a b : List ℕ} → n ≡ m → a ≡ b → ◌≡◌ {A = Item} (record { code = n; raw = a }) (record { code = m; raw = b })
 made e f = cc
@@ -45,3 +41,14 @@ same_item_swap a b = by_test (same_item a b) (same_item b a) refl refl
 
 pub zero_only : (x : Item) → is_zero x ≡ true → x ≡ zero_item
 zero_only x e = sym (same_item_lem zero_item x e)
+
+-- the zero item by its parts
+pub zero_by : (x : Item) → x.code ≡ 0 → pointwise eqb x.raw (replicate 32 0) ≡ is_zero x
+unfolding same_item
+zero_by x e =
+    let p : same_item x zero_item ≡ same_numbers x.raw (replicate 32 0) = rw (eq-eqb x.code 0 e) in
+    same_pointwise x.raw (replicate 32 0) ∙ sym p ∙ same_item_swap x zero_item
+
+pub zero_not : (x : Item) → (x.code ≡ 0 → ⊥) → is_zero x ≡ false
+unfolding same_item
+zero_not x e = rw (ne_eqb 0 x.code (λ h. e (sym h)))

@@ -90,10 +90,12 @@ pub fn zero() -> Item
     }
 }
 
+// Against zeros that the compiler sees: `same(zero(), x)` was four times as slow.
+#[tactic(auto, using(crate::proofs::Laws::zero_by, crate::proofs::Laws::zero_not))]
 pub fn is_zero(x: Item) -> bool
     ensures { result ≡ is_zero x }
 {
-    same(zero(), x)
+    x.code == 0 && x.raw == [0; 32]
 }
 
 // A refusal where the code is outside the class that the place asks for.
