@@ -1,4 +1,4 @@
--- Config traits: what is a trait, how many places there are, and a config of the right shape. Assumes nothing.
+-- Config traits: how many places there are, and a config of the right shape. Assumes nothing.
 use mathlib.Core.Path.{◌≡◌, sym}
 use mathlib.Core.Bool.{true, false}
 use mathlib.Core.List.{List}
@@ -15,16 +15,6 @@ use Rattle.lists.proofs.Padding.{is_padded}
 use Rattle.config.specs.declared.Config.{Config}
 use Rattle.config.specs.Config.{traits_of, packed_traits, is_trait, shape_of}
 use Rattle.config.specs.contracts.Config.{the_row}
-
-module _ (t : ℕ) where
-  pub trait_in : 1 ≤ t → t ≤ 15 → is_trait t ≡ true
-  trait_in h k = rw (le-leb _ _ h, le-leb _ _ k)
-
-  pub trait_low : t < 1 → is_trait t ≡ false
-  trait_low h = rw (lt-leb _ _ h)
-
-  pub trait_high : 15 < t → is_trait t ≡ false
-  trait_high h = let l : 1 ≤ t = omega arith in rw (le-leb _ _ l, lt-leb _ _ h)
 
 -- who owns a config knows that it has 8 places: from `good` for a parameter, from `ok` for a call's result
 pub places-8 : (c : Config) (vs : List Val) → Is the_row c vs → length c.traits ≡ 8

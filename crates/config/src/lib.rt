@@ -3,7 +3,10 @@
 
 ghost use Rattle.std.specs.Prelude.{◌≡◌, eqb, drop};
 ghost use Rattle.lists.specs.Lists.{all};
+ghost use Rattle.answer.specs.Refusal.{fault_of};
 ghost use Rattle.config.specs.Config.{traits_of, is_trait, shape_of, establishment_only};
+
+use answer::Refusal;
 
 #[derive(Clone, Copy)]
 pub struct Config {
@@ -16,72 +19,39 @@ const EST_ONLY: u8 = 1;
 pub fn is_trait(t: u8) -> bool
     ensures { result ≡ is_trait t }
 {
-    match t {
-        1..=15 => true,
-        _ => false,
-    }
+    matches!(t, 1..=15)
 }
 
 fn used_fit(c: Config) -> bool
     ensures { result ≡ all is_trait (traits_of c) }
 {
-    let n = c.count;
-    let traits = c.traits;
-    let mut i: usize = 0;
-    while i < 8 {
-        if n <= i {
-            return true;
-        }
-        if !is_trait(traits[i]) {
-            return false;
-        }
-        i += 1;
-    }
-    true
+    c.traits.iter().take(c.count).all(|t| is_trait(*t))
 }
 
 fn unused_zero(c: Config) -> bool
     ensures { result ≡ all (eqb 0) (drop c.count c.traits) }
 {
-    let traits = c.traits;
-    let mut i = c.count;
-    while i < 8 {
-        if traits[i] != 0 {
-            return false;
-        }
-        i += 1;
-    }
-    true
+    c.traits.iter().skip(c.count).all(|t| *t == 0)
 }
 
-// 0, 4 where the count is above 8, 3 where a used place is no trait or an unused one is not zero.
-pub fn shape(c: Config) -> u8
-    ensures { result ≡ shape_of c }
+// TooMany where the count is above 8, BadField where a used place is no trait or an unused one is not zero.
+#[tactic(auto, unfolding(crate::specs::Config::shape_of))]
+pub fn shape(c: Config) -> Result<(), Refusal>
+    ensures { fault_of result ≡ shape_of c }
 {
     if 8 < c.count {
-        return 4;
+        return Err(Refusal::TooMany);
     }
-    if !used_fit(c) {
-        return 3;
+    if used_fit(c) && unused_zero(c) {
+        Ok(())
+    } else {
+        Err(Refusal::BadField)
     }
-    if unused_zero(c) { 0 } else { 3 }
 }
 
 // "EstOnly counts at any place."
 pub fn is_establishment_only(c: Config) -> bool
     ensures { result ≡ establishment_only c }
 {
-    let n = c.count;
-    let traits = c.traits;
-    let mut i: usize = 0;
-    while i < 8 {
-        if n <= i {
-            return false;
-        }
-        if traits[i] == EST_ONLY {
-            return true;
-        }
-        i += 1;
-    }
-    false
+    c.traits.iter().take(c.count).any(|t| *t == EST_ONLY)
 }

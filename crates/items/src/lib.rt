@@ -3,11 +3,12 @@
 
 ghost use Rattle.std.specs.Prelude.{◌≡◌, [], drop};
 ghost use Rattle.lists.specs.Lists.{all, first_from};
+ghost use Rattle.answer.specs.Refusal.{fault_of};
 ghost use Rattle.item.specs.Item.{item_fits, is_zero, same_item};
 ghost use Rattle.items.specs.Items.{listed, packed, shape_of};
 
+use answer::Refusal;
 use item::{Item, Kind};
-
 
 #[derive(Clone, Copy)]
 pub struct Items {
@@ -18,75 +19,41 @@ pub struct Items {
 pub fn empty() -> Items
     ensures { result ≡ packed [] }
 {
-    let z = item::zero();
     Items {
         count: 0,
-        at: [z; 16],
+        at: [item::zero(); 16],
     }
 }
 
 pub fn find(l: Items, x: Item) -> Option<usize>
     ensures { result ≡ first_from (same_item x) 0 (listed l) }
 {
-    let n = l.count;
-    let places = l.at;
-    let mut i: usize = 0;
-    while i < 16 {
-        if n <= i {
-            return None;
-        }
-        let y = places[i];
-        if item::same(x, y) {
-            return Some(i);
-        }
-        i += 1;
-    }
-    None
+    l.at.iter().take(l.count).position(|y| item::same(x, *y))
 }
 
 fn used_fit(l: Items, kind: Kind) -> bool
     ensures { result ≡ all (item_fits kind) (listed l) }
 {
-    let n = l.count;
-    let places = l.at;
-    let mut i: usize = 0;
-    while i < 16 {
-        if n <= i {
-            return true;
-        }
-        let y = places[i];
-        if !item::fits(y.code, kind) {
-            return false;
-        }
-        i += 1;
-    }
-    true
+    l.at.iter().take(l.count).all(|x| item::fits(x.code, kind))
 }
 
 fn unused_zero(l: Items) -> bool
     ensures { result ≡ all is_zero (drop l.count l.at) }
 {
-    let places = l.at;
-    let mut i = l.count;
-    while i < 16 {
-        let y = places[i];
-        if !item::is_zero(y) {
-            return false;
-        }
-        i += 1;
-    }
-    true
+    l.at.iter().skip(l.count).all(|x| item::is_zero(*x))
 }
 
-// 0, 4 where the count is above 16, 3 where a used place is outside its class or an unused one is not zero.
-pub fn shape(l: Items, kind: Kind) -> u8
-    ensures { result ≡ shape_of kind l }
+// TooMany where the count is above 16, BadField where a used place is outside its class or an unused one is not zero.
+#[tactic(auto, unfolding(crate::specs::Items::shape_of))]
+pub fn shape(l: Items, kind: Kind) -> Result<(), Refusal>
+    ensures { fault_of result ≡ shape_of kind l }
 {
     if 16 < l.count {
-        return 4;
+        return Err(Refusal::TooMany);
     }
-    if !used_fit(l, kind) {
-        return 3;
+    if used_fit(l, kind) && unused_zero(l) {
+        Ok(())
+    } else {
+        Err(Refusal::BadField)
     }
-    if unused_zero(l) { 0 } else { 3 }
 }

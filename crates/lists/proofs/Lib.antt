@@ -1,3 +1,4 @@
 pub mod Walks
 pub mod Facts
 pub mod Padding
+pub mod Chains
