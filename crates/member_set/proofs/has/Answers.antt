@@ -1,14 +1,13 @@
-use mathlib.Core.Path.{sym, ◌∙◌, ap}
-use Rattle.lists.specs.Lists.{is_at}
-use Rattle.lists.proofs.Facts.{first_any}
+use mathlib.Core.Path.{◌∙◌}
+use borrow.Author.Tests.{tests}
+use Rattle.std.proofs.Common.{rules}
+use Rattle.std.proofs.lemmas.Iterator.{YieldsList-from_slice}
+use Rattle.std.proofs.lemmas.Iterator.Search.{any_from_yields_List}
 use Rattle.item.specs.Item.{same_item}
-use Rattle.items.specs.Items.{listed}
+use Rattle.member_set.proofs.Chains.{any_is}
 use Rattle.member_set.proofs.has.Goals as goal
 
-pub returns-in-At : goal.returns-in-At
-returns-in-At c = let a = c.args in
-    sym (ap is_at c.in-At.is) ∙ ap is_at c.find.ensures ∙ first_any (same_item a.x) 0 (listed a.l)
-
-pub returns-in-Nothing : goal.returns-in-Nothing
-returns-in-Nothing c = let a = c.args in
-    sym (ap is_at c.in-Nothing.is) ∙ ap is_at c.find.ensures ∙ first_any (same_item a.x) 0 (listed a.l)
+pub returns : goal.returns
+returns c = let a = c.args in
+    any_from_yields_List (same_item a.x) _ _ _ c.any.ensures.ran (YieldsList-from_slice a.these.now cc) (λ x b q k. search (rules, tests))
+    ∙ any_is (same_item a.x) a.these.now
