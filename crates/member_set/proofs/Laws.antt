@@ -217,9 +217,6 @@ module _ (first xs : List Item) (i : ℕ) where
       let n : length (take i xs) ≤ i = simp length-take (omega arith) in
       rw grown_count (omega arith)
 
-  pub joined_end : length xs ≤ i → joined first (take i xs) ≡ joined first xs
-  joined_end h = rw (take_all i xs h)
-
 pub joined_start : (first : Items) → first ≡ packed (listed first) → length (listed first) ≤ 16 → first ≡ grown (joined (listed first) [])
 unfolding joined
 joined_start first e h = e ∙ sym (grown_packed (listed first) h)

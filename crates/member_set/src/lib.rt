@@ -129,11 +129,10 @@ fn push(l: &mut Items, x: Item)
     requires { l.old.count < 32 }
     ensures { l.new ≡ pushed l.old x }
 {
-    let n = l.count;
-    if n < 16 {
-        l.at[n] = x;
+    if l.count < 16 {
+        l.at[l.count] = x;
     }
-    l.count = n + 1;
+    l.count += 1;
 }
 
 // The current members that are not cut.
@@ -166,7 +165,7 @@ fn with_additions(first: Items, adds: Items) -> Items
     l
 }
 
-#[tactic(auto, using(crate::proofs::Laws::first_listed, crate::proofs::Laws::update_many, crate::proofs::Laws::update_fits, crate::proofs::Laws::grown_count), unfolding(crate::specs::Members::updated))]
+#[tactic(auto, using(crate::proofs::Laws::first_listed, crate::proofs::Laws::update_many, crate::proofs::Laws::update_fits), unfolding(crate::specs::Members::updated, crate::specs::Parts::grown))]
 pub fn update(current: Items, cuts: Items, adds: Items) -> Result<Items, Refusal>
     ensures { change_as result ≡ change_of (updated (listed current) (listed cuts) (listed adds)) }
 {
