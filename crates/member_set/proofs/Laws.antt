@@ -64,11 +64,11 @@ module _ (ys xs : List Item) (i : ℕ) where
   overlap_none h = first-end (member ys) xs i h
 
 -- ---- a list on its way
-pub grown_count : (ks : List Item) → (grown ks).count ≡ length ks
+grown_count : (ks : List Item) → (grown ks).count ≡ length ks
 unfolding grown
 grown_count ks = refl
 
-pub grown_packed : (ks : List Item) → length ks ≤ 16 → grown ks ≡ packed ks
+grown_packed : (ks : List Item) → length ks ≤ 16 → grown ks ≡ packed ks
 unfolding grown
 grown_packed ks h = rw (take_all 16 ks h)
 

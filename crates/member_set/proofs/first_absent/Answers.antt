@@ -1,14 +1,10 @@
-use mathlib.Core.Path.{◌∙◌, ap}
-use borrow.Author.Tests.{tests}
 use Rattle.std.proofs.Common.{rules}
 use Rattle.std.proofs.lemmas.Iterator.{YieldsList-from_slice}
-use Rattle.std.proofs.lemmas.Iterator.Search.{position_from_yields_List}
 use Rattle.items.specs.Items.{listed}
 use Rattle.member_set.specs.Members.{absent}
-use Rattle.member_set.proofs.Chains.{position_is}
+use Rattle.member_set.proofs.Chains.{yields_first}
 use Rattle.member_set.proofs.first_absent.Goals as goal
 
 pub returns : goal.returns
 returns c = let a = c.args in
-    position_from_yields_List (absent (listed a.ys)) _ _ _ c.position.ensures.ran (YieldsList-from_slice (listed a.xs) cc) (λ x b q k. search (rules, tests))
-    ∙ position_is (absent (listed a.ys)) (listed a.xs)
+    yields_first (absent (listed a.ys)) _ _ _ c.position.ensures.ran (YieldsList-from_slice (listed a.xs) cc) (λ x b q k. search rules)
