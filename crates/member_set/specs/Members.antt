@@ -1,14 +1,15 @@
 -- Lists of witnesses: their faults in the Rust's order, and the list after a change.
 -- 18 and 19: "1 witnesses, 2 removals, 3 additions". 38's detail: the count.
-use Rattle.std.specs.Prelude.{ℕ, ◌+◌, List, [], ◌∷◌, ◌++◌, Bool, not, leb, length}
+use Rattle.std.specs.Prelude.{Option, Some, None, Result, Ok, Err, ℕ, ◌+◌, List, [], ◌∷◌, ◌++◌, Bool, not, leb, length}
 use Rattle.lists.specs.Lists.{pick, any, filter, is_at}
-use Rattle.std.specs.Prelude.{Option, Some, None}
 use Rattle.item.specs.declared.Item.{Item}
 use Rattle.item.specs.Item.{is_transferable}
+use Rattle.items.specs.declared.Items.{Items}
 use Rattle.items.specs.Items.{member, packed}
 use Rattle.answer.specs.declared.Answer.{Answer}
+use Rattle.answer.specs.declared.Refusal.{Refusal}
 use Rattle.answer.specs.Answer.{refused, accepted, refuse_if, first_refusal}
-use Rattle.member_set.specs.declared.Change.{Change}
+use Rattle.answer.specs.Refusal.{answer_of}
 
 -- ---- the single faults
 -- the first place whose item stood earlier
@@ -61,6 +62,16 @@ joined kept (x ∷ more) = pick (member kept x) (joined kept more) (joined (kept
 
 unfoldable pub updated : List Item → List Item → List Item → List Item
 updated current cuts adds = joined (filter (absent cuts) current) adds
+
+-- the answer, and the new list where it is accepted; else the empty list
+pub record Change : Type 0 where
+  pub answer : Answer
+  pub list : Items
+
+-- what an update answers, with its list
+abbrev pub change_as : Result Items Refusal → Change
+change_as (Ok l) = record { answer = accepted; list = l }
+change_as (Err r) = record { answer = answer_of r; list = packed [] }
 
 -- "A resulting witness list above 16 is refused (38)."
 unfoldable pub change_of : List Item → Change

@@ -1,59 +1,42 @@
 // Witness lists: the faults of a list and of a change, in the Rust's order, and the list after a change.
 #![tactic(auto)]
 
-ghost use Rattle.std.specs.Prelude.{◌≡◌, [], ◌<◌, ◌≤◌, take};
-ghost use Rattle.lists.specs.Lists.{pick, either, filter, first_from, is_at};
+ghost use Rattle.std.specs.Prelude.{◌≡◌, [], ◌<◌};
+ghost use Rattle.lists.specs.Lists.{filter, first_from, is_at};
 ghost use Rattle.item.specs.Item.{is_transferable};
 ghost use Rattle.items.specs.Items.{listed, packed, member};
-ghost use Rattle.answer.specs.Answer.{refused, refuse_if};
-ghost use Rattle.member_set.specs.Members.{repeat_from, duplicate, transferable, absent, witness_faults, change_faults, joined, updated, change_of};
-ghost use Rattle.member_set.specs.Parts.{delta_faults, static_faults, grown, pushed};
+ghost use Rattle.answer.specs.Answer.{refuse_if};
+ghost use Rattle.answer.specs.Refusal.{answer_of, answered};
+ghost use Rattle.member_set.specs.Members.{repeat_from, duplicate, transferable, absent, witness_faults, change_faults, joined, updated, change_of, change_as};
+ghost use Rattle.member_set.specs.Parts.{grown, pushed};
 
-use answer::Answer;
+use answer::Refusal;
 use item::Item;
 use items::Items;
 
-// The answer, and the new list where it is 0; else the empty list.
-#[derive(Clone, Copy)]
-pub struct Change {
-    pub answer: Answer,
-    pub list: Items,
+// The places that are used: a count above 16 can use no more.
+fn used(l: &Items) -> &[Item]
+    ensures { result.now ≡ listed l.now }
+{
+    l.at.get(..l.count).unwrap_or(&l.at)
 }
 
-// How many places are used; a count above 16 can use no more.
-fn used(l: Items) -> usize
-    ensures { (result ≤ 16) × (take result l.at ≡ listed l) }
+fn has(these: &[Item], x: Item) -> bool
+    ensures { result ≡ member these.now x }
 {
-    let n = l.count;
-    if n < 16 { n } else { 16 }
-}
-
-fn has(l: Items, x: Item) -> bool
-    ensures { result ≡ member (listed l) x }
-{
-    match items::find(l, x) {
-        Some(_) => true,
-        None => false,
-    }
+    these.iter().any(|y| item::same(x, *y))
 }
 
 // The first place whose item stood earlier.
+#[tactic(auto, using(crate::proofs::Laws::repeat_here, crate::proofs::Laws::repeat_next, crate::proofs::Laws::repeat_none))]
 pub fn first_repeat(l: Items) -> Option<usize>
     ensures { result ≡ repeat_from [] 0 (listed l) }
 {
-    let n = used(l);
-    let places = l.at;
-    let mut i: usize = 0;
-    while i < n {
-        let x = places[i];
-        let earlier = Items {
-            count: i,
-            at: places,
-        };
-        if has(earlier, x) {
+    let these = used(&l);
+    for (i, x) in these.iter().enumerate() {
+        if has(&these[..i], *x) {
             return Some(i);
         }
-        i += 1;
     }
     None
 }
@@ -61,221 +44,134 @@ pub fn first_repeat(l: Items) -> Option<usize>
 pub fn first_transferable(l: Items) -> Option<usize>
     ensures { result ≡ first_from is_transferable 0 (listed l) }
 {
-    let n = used(l);
-    let places = l.at;
-    let mut i: usize = 0;
-    while i < n {
-        let x = places[i];
-        if item::is_transferable(x.code) {
-            return Some(i);
-        }
-        i += 1;
-    }
-    None
+    used(&l).iter().position(|x| item::is_transferable(x.code))
 }
 
 // The first of xs that is not among ys.
 pub fn first_absent(xs: Items, ys: Items) -> Option<usize>
     ensures { result ≡ first_from (absent (listed ys)) 0 (listed xs) }
 {
-    let n = used(xs);
-    let places = xs.at;
-    let mut i: usize = 0;
-    while i < n {
-        let x = places[i];
-        if !has(ys, x) {
-            return Some(i);
-        }
-        i += 1;
-    }
-    None
+    used(&xs).iter().position(|x| !has(used(&ys), *x))
 }
 
 // The first of xs that is among ys: the first y that equals it ends the search.
+#[tactic(auto, using(crate::proofs::Laws::among_here, crate::proofs::Laws::among_next, crate::proofs::Laws::among_none, crate::proofs::Laws::overlap_here, crate::proofs::Laws::overlap_next, crate::proofs::Laws::overlap_none))]
 pub fn first_overlap(xs: Items, ys: Items) -> Option<usize>
     ensures { result ≡ first_from (member (listed ys)) 0 (listed xs) }
 {
-    let n = used(xs);
-    let m = used(ys);
-    let these = xs.at;
-    let those = ys.at;
-    let mut i: usize = 0;
-    'search: loop {
-        if n <= i {
-            break 'search None;
-        }
-        let x = these[i];
-        let mut j: usize = 0;
-        while j < m {
-            let y = those[j];
-            if item::same(x, y) {
-                break 'search Some(i);
+    let these = used(&xs);
+    let those = used(&ys);
+    'search: {
+        for (i, x) in these.iter().enumerate() {
+            for y in those {
+                if item::same(*x, *y) {
+                    break 'search Some(i);
+                }
             }
-            j += 1;
         }
-        i += 1;
+        None
     }
 }
 
-fn refuse_at(found: Option<usize>, which: u8, list: u8) -> Answer
-    ensures { result ≡ refuse_if (is_at found) (refused which list 0) }
+// A refusal where a search ended at a place.
+fn refuse_at(found: Option<usize>, refusal: Refusal) -> Result<(), Refusal>
+    ensures { answered result ≡ refuse_if (is_at found) (answer_of refusal) }
 {
     match found {
-        Some(_) => answer::refuse(which, list as u64, 0),
-        None => answer::accept(),
+        Some(_) => Err(refusal),
+        None => Ok(()),
     }
 }
 
-pub fn check_members(l: Items, list: u8) -> Answer
-    ensures { result ≡ duplicate list (listed l) }
+// `list` stays a u8: an enum would ask more of callers, and the clause holds for every number.
+#[tactic(auto, using(lists::proofs::Facts::first_any))]
+pub fn check_members(l: Items, list: u8) -> Result<(), Refusal>
+    ensures { answered result ≡ duplicate list (listed l) }
 {
-    let f = first_repeat(l);
-    refuse_at(f, 18, list)
+    refuse_at(first_repeat(l), Refusal::Duplicate { list })
 }
 
-fn check_transferable(l: Items, list: u8) -> Answer
-    ensures { result ≡ transferable list (listed l) }
+#[tactic(auto, using(lists::proofs::Facts::first_any))]
+fn check_transferable(l: Items, list: u8) -> Result<(), Refusal>
+    ensures { answered result ≡ transferable list (listed l) }
 {
-    let f = first_transferable(l);
-    refuse_at(f, 19, list)
+    refuse_at(first_transferable(l), Refusal::TransferableWitness { list })
 }
 
-pub fn check_witnesses(l: Items, list: u8) -> Answer
-    ensures { result ≡ witness_faults list (listed l) }
+#[tactic(auto, using(answer::proofs::Results::refuses), unfolding(answer::specs::Answer::first_refusal, crate::specs::Members::witness_faults))]
+pub fn check_witnesses(l: Items, list: u8) -> Result<(), Refusal>
+    ensures { answered result ≡ witness_faults list (listed l) }
 {
-    let a = check_members(l, list);
-    if a.number != 0 {
-        return a;
-    }
+    check_members(l, list)?;
     check_transferable(l, list)
 }
 
-// 18 removals, 18 additions, 20.
-fn check_deltas(cuts: Items, adds: Items) -> Answer
-    ensures { result ≡ delta_faults (listed cuts) (listed adds) }
+// 18 removals, 18 additions, 20, 19 removals, 19 additions, 21, 22.
+#[tactic(auto, using(answer::proofs::Results::refuses, lists::proofs::Facts::first_any), unfolding(answer::specs::Answer::first_refusal, crate::specs::Members::change_faults))]
+pub fn check_change(current: Items, cuts: Items, adds: Items) -> Result<(), Refusal>
+    ensures { answered result ≡ change_faults (listed current) (listed cuts) (listed adds) }
 {
-    let a = check_members(cuts, 2);
-    if a.number != 0 {
-        return a;
-    }
-    let b = check_members(adds, 3);
-    if b.number != 0 {
-        return b;
-    }
-    let f = first_overlap(cuts, adds);
-    refuse_at(f, 20, 0)
+    check_members(cuts, 2)?;
+    check_members(adds, 3)?;
+    refuse_at(first_overlap(cuts, adds), Refusal::CutAddOverlap)?;
+    check_transferable(cuts, 2)?;
+    check_transferable(adds, 3)?;
+    refuse_at(first_absent(cuts, current), Refusal::RemovalNotCurrent)?;
+    refuse_at(
+        first_overlap(adds, current),
+        Refusal::AdditionAlreadyPresent,
+    )
 }
 
-// These, then 19 removals, 19 additions.
-fn check_witness_deltas(cuts: Items, adds: Items) -> Answer
-    ensures { result ≡ static_faults (listed cuts) (listed adds) }
+// One more; past 16 only the count grows.
+#[tactic(auto, unfolding(crate::specs::Parts::pushed))]
+fn push(l: &mut Items, x: Item)
+    requires { l.old.count < 32 }
+    ensures { l.new ≡ pushed l.old x }
 {
-    let a = check_deltas(cuts, adds);
-    if a.number != 0 {
-        return a;
+    if l.count < 16 {
+        l.at[l.count] = x;
     }
-    let b = check_transferable(cuts, 2);
-    if b.number != 0 {
-        return b;
-    }
-    check_transferable(adds, 3)
-}
-
-// All of these, then 21 and 22.
-pub fn check_change(current: Items, cuts: Items, adds: Items) -> Answer
-    ensures { result ≡ change_faults (listed current) (listed cuts) (listed adds) }
-{
-    let a = check_witness_deltas(cuts, adds);
-    if a.number != 0 {
-        return a;
-    }
-    let f = first_absent(cuts, current);
-    let b = refuse_at(f, 21, 0);
-    if b.number != 0 {
-        return b;
-    }
-    let g = first_overlap(adds, current);
-    refuse_at(g, 22, 0)
-}
-
-// One more, unless it is known; past 16 only the count grows.
-fn push_unless(known: bool, l: Items, x: Item) -> Items
-    requires { l.count < 32 }
-    ensures { result ≡ pick known l (pushed l x) }
-{
-    if known {
-        return l;
-    }
-    let n = l.count;
-    let mut m = l;
-    m.count = n + 1;
-    if 16 <= n {
-        return m;
-    }
-    m.at[n] = x;
-    m
+    l.count += 1;
 }
 
 // The current members that are not cut.
+#[tactic(auto, using(crate::proofs::Laws::kept_none, crate::proofs::Laws::kept_in, crate::proofs::Laws::kept_out))]
 fn kept(current: Items, cuts: Items) -> Items
     ensures { result ≡ packed (filter (absent (listed cuts)) (listed current)) }
 {
-    let n = used(current);
-    let places = current.at;
     let mut l = items::empty();
-    let mut i: usize = 0;
-    while i < n {
-        let x = places[i];
-        let cut = has(cuts, x);
-        l = push_unless(cut, l, x);
-        i += 1;
+    for x in used(&current) {
+        if !has(used(&cuts), *x) {
+            push(&mut l, *x);
+        }
     }
     l
 }
 
-// Already kept, or an earlier addition.
-fn is_known(kept: Items, earlier: Items, x: Item) -> bool
-    ensures { result ≡ either (member (listed kept) x) (member (listed earlier) x) }
-{
-    has(kept, x) || has(earlier, x)
-}
-
 // The kept members, then the additions that are not there yet.
+#[tactic(auto, using(crate::proofs::Laws::joined_in, crate::proofs::Laws::joined_kept, crate::proofs::Laws::joined_earlier))]
 fn with_additions(first: Items, adds: Items) -> Items
     requires { first ≡ packed (listed first) }
     ensures { result ≡ grown (joined (listed first) (listed adds)) }
 {
-    let n = used(adds);
-    let places = adds.at;
+    let these = used(&adds);
     let mut l = first;
-    let mut i: usize = 0;
-    while i < n {
-        let x = places[i];
-        let earlier = Items {
-            count: i,
-            at: places,
-        };
-        let known = is_known(first, earlier, x);
-        l = push_unless(known, l, x);
-        i += 1;
+    for (i, x) in these.iter().enumerate() {
+        if !has(used(&first), *x) && !has(&these[..i], *x) {
+            push(&mut l, *x);
+        }
     }
     l
 }
 
-pub fn update(current: Items, cuts: Items, adds: Items) -> Change
-    ensures { result ≡ change_of (updated (listed current) (listed cuts) (listed adds)) }
+#[tactic(auto, using(crate::proofs::Laws::first_listed, crate::proofs::Laws::update_many, crate::proofs::Laws::update_fits), unfolding(crate::specs::Members::updated, crate::specs::Parts::grown))]
+pub fn update(current: Items, cuts: Items, adds: Items) -> Result<Items, Refusal>
+    ensures { change_as result ≡ change_of (updated (listed current) (listed cuts) (listed adds)) }
 {
-    let first = kept(current, cuts);
-    let l = with_additions(first, adds);
-    let n = l.count;
-    if 16 < n {
-        let a = answer::refuse(38, n as u64, 0);
-        let none = items::empty();
-        return Change {
-            answer: a,
-            list: none,
-        };
+    let l = with_additions(kept(current, cuts), adds);
+    if 16 < l.count {
+        return Err(Refusal::TooManyWitnesses { count: l.count });
     }
-    let a = answer::accept();
-    Change { answer: a, list: l }
+    Ok(l)
 }

@@ -4,7 +4,7 @@ use Prim.Native.Nat.{ℕ, zero, suc, ◌-◌, ◌/◌, ◌^◌, ◌<◌, ◌≤�
 use native.Mathlib.Nat.{le-min}
 use native.Mathlib.Omega.{arith}
 use borrow.Author.Tests.{lt-ltb, le-ltb, eq-eqb, ne_eqb}
-use Rattle.toad.specs.Toad.{up, majority, ample_of, ample_answer, taken, not_taken}
+use Rattle.toad.specs.Toad.{up, majority, ample_of, ample_answer, not_taken}
 
 abbrev floor_of : ℕ → ℕ
 floor_of n = majority n (max 1 ((n - 1) / 3))
@@ -12,11 +12,11 @@ floor_of n = majority n (max 1 ((n - 1) / 3))
 abbrev ceil_of : ℕ → ℕ
 ceil_of n = majority n (max 1 (up (n - 1) 3))
 
-pub ample-none : (n : ℕ) → n ≡ 0 → ample_of n ≡ 0
+ample-none : (n : ℕ) → n ≡ 0 → ample_of n ≡ 0
 unfolding ample_of
 ample-none n e = rw (eq-eqb n 0 e)
 
-pub ample-some : (n : ℕ) → (n ≡ 0 → ⊥) → ample_of n ≡ min n (min (floor_of n) (ceil_of n))
+ample-some : (n : ℕ) → (n ≡ 0 → ⊥) → ample_of n ≡ min n (min (floor_of n) (ceil_of n))
 unfolding ample_of
 ample-some n e = rw (ne_eqb n 0 e)
 
@@ -32,15 +32,12 @@ ceil_over n h = omega arith
 least : (a b c most : ℕ) → b < most → min a (min b c) < most
 least a b c most h = omega arith
 
-pub ample-fits : (n : ℕ) → n < 6442450943 → ample_of n < 2 ^ 32
-ample-fits zero g = rw (ample-none 0 refl) (omega arith)
-ample-fits (suc m) g = rw (ample-some (suc m) (λ e. omega (arith, e))) (least (suc m) (floor_of (suc m)) (ceil_of (suc m)) (2 ^ 32) (floor_fits (suc m) (omega arith) g))
+pub ample_fits : (n : ℕ) → n < 6442450943 → ample_of n < 2 ^ 32
+ample_fits zero g = rw (ample-none 0 refl) (omega arith)
+ample_fits (suc m) g = rw (ample-some (suc m) (λ e. omega (arith, e))) (least (suc m) (floor_of (suc m)) (ceil_of (suc m)) (2 ^ 32) (floor_fits (suc m) (omega arith) g))
 
-ample-over : (n : ℕ) → 6442450943 ≤ n → 2 ^ 32 ≤ ample_of n
-ample-over n h = rw (ample-some n (λ e. omega (arith, e))) (le-min (omega arith) (le-min (floor_over n h) (ceil_over n h)))
+ample_over : (n : ℕ) → 6442450943 ≤ n → 2 ^ 32 ≤ ample_of n
+ample_over n h = rw (ample-some n (λ e. omega (arith, e))) (le-min (omega arith) (le-min (floor_over n h) (ceil_over n h)))
 
-pub ample-taken : (n : ℕ) → n < 6442450943 → ample_answer n ≡ taken (ample_of n)
-ample-taken n h = rw (lt-ltb _ _ (ample-fits n h))
-
-pub ample-refused : (n : ℕ) → 6442450943 ≤ n → ample_answer n ≡ not_taken 39 n 0
-ample-refused n h = rw (le-ltb _ _ (ample-over n h))
+pub ample_refused : (n : ℕ) → 6442450943 ≤ n → ample_answer n ≡ not_taken 39 n 0
+ample_refused n h = rw (le-ltb _ _ (ample_over n h))

@@ -1,16 +1,27 @@
 -- The witness threshold. "Witnesses 0 to 7 give 0, 1, 2, 3, 3, 4, 4, 5; 10 gives 7; 16 gives 11." 39's detail: witnesses; 40's: toad, witnesses.
-use Rattle.std.specs.Prelude.{ℕ, ◌+◌, ◌-◌, ◌/◌, ◌^◌, min, max, Bool, true, false, eqb, ltb, leb}
+use Rattle.std.specs.Prelude.{Result, Ok, Err, ℕ, ◌+◌, ◌-◌, ◌/◌, ◌^◌, min, max, Bool, true, false, eqb, ltb, leb}
 use Rattle.lists.specs.Lists.{pick, both}
 use Rattle.answer.specs.declared.Answer.{Answer}
+use Rattle.answer.specs.declared.Refusal.{Refusal}
 use Rattle.answer.specs.Answer.{refused, accepted}
+use Rattle.answer.specs.Refusal.{answer_of}
 use Rattle.toad.specs.declared.Toad.{Toad}
-use Rattle.toad.specs.declared.Taken.{Taken}
+
+-- the answer, and the threshold where it is accepted; else threshold 0
+pub record Taken : Type 0 where
+  pub answer : Answer
+  pub toad : Toad
 
 abbrev pub taken : ℕ → Taken
 taken n = record { answer = accepted; toad = record { 0 = n } }
 
 abbrev pub not_taken : ℕ → ℕ → ℕ → Taken
 not_taken which a b = record { answer = refused which a b; toad = record { 0 = 0 } }
+
+-- what a call answers, with its threshold
+abbrev pub taken_as : Result Toad Refusal → Taken
+taken_as (Ok t) = record { answer = accepted; toad = t }
+taken_as (Err r) = record { answer = answer_of r; toad = record { 0 = 0 } }
 
 -- n / d rounded up
 abbrev pub up : ℕ → ℕ → ℕ

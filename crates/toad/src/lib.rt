@@ -1,55 +1,17 @@
 // The witness threshold: ample for a number of witnesses, exact for one, or as it stands on the wire.
 #![tactic(auto)]
 
-ghost use Rattle.std.specs.Prelude.{◌≡◌, ◌<◌, ◌^◌, min, max};
-ghost use Rattle.toad.specs.Toad.{taken, not_taken, majority, ample_of, ample_answer, in_range, exact_answer, witness_threshold};
+ghost use Rattle.std.specs.Prelude.{◌≡◌, ◌<◌, ◌^◌};
+ghost use Rattle.answer.specs.Refusal.{answered};
+ghost use Rattle.toad.specs.Toad.{taken_as, majority, ample_of, ample_answer, in_range, exact_answer, witness_threshold};
 
-use answer::Answer;
+use answer::Refusal;
 
-#[derive(Clone, Copy)]
+#[derive(Clone, Copy, PartialEq, Eq)]
 pub struct Toad(pub u32);
-
-// The answer, and the threshold where it is 0; else threshold 0.
-#[derive(Clone, Copy)]
-pub struct Taken {
-    pub answer: Answer,
-    pub toad: Toad,
-}
 
 // The first number of witnesses whose ample threshold is past u32.
 const TOO_MANY: u64 = 6_442_450_943;
-
-fn take(toad: u32) -> Taken
-    ensures { result ≡ taken toad }
-{
-    let x = answer::accept();
-    Taken {
-        answer: x,
-        toad: Toad(toad),
-    }
-}
-
-fn refuse(which: u8, a: u64, b: u64) -> Taken
-    ensures { result ≡ not_taken which a b }
-{
-    let x = answer::refuse(which, a, b);
-    Taken {
-        answer: x,
-        toad: Toad(0),
-    }
-}
-
-fn lesser(a: u64, b: u64) -> u64
-    ensures { result ≡ min a b }
-{
-    if a < b { a } else { b }
-}
-
-fn at_least_one(n: u64) -> u64
-    ensures { result ≡ max 1 n }
-{
-    if n == 0 { 1 } else { n }
-}
 
 // The least whole number that is no less than (n + f + 1) / 2, for f faulty witnesses out of n.
 fn least_strong_majority(n: u64, f: u64) -> u64
@@ -61,6 +23,7 @@ fn least_strong_majority(n: u64, f: u64) -> u64
 }
 
 // The least strong majority over both ways to round the faulty third.
+#[tactic(auto, unfolding(crate::specs::Toad::ample_of))]
 fn least_ample(n: u64) -> u64
     requires { n < 6442450943 }
     ensures { result ≡ ample_of n }
@@ -69,42 +32,34 @@ fn least_ample(n: u64) -> u64
         return 0;
     }
     let faultable = n - 1;
-    let f_floor = at_least_one(faultable / 3);
-    let f_ceil = at_least_one((faultable + 2) / 3);
-    let m_floor = least_strong_majority(n, f_floor);
-    let m_ceil = least_strong_majority(n, f_ceil);
-    lesser(n, lesser(m_floor, m_ceil))
+    let floor = least_strong_majority(n, (faultable / 3).max(1));
+    let ceil = least_strong_majority(n, ((faultable + 2) / 3).max(1));
+    n.min(floor.min(ceil))
 }
 
-pub fn ample(witnesses: u64) -> Taken
-    ensures { result ≡ ample_answer witnesses }
+#[tactic(auto, using(crate::proofs::Laws::ample_fits, crate::proofs::Laws::ample_refused))]
+pub fn ample(witnesses: u64) -> Result<Toad, Refusal>
+    ensures { taken_as result ≡ ample_answer witnesses }
 {
     if TOO_MANY <= witnesses {
-        return refuse(39, witnesses, 0);
+        return Err(Refusal::Overflow { witnesses });
     }
-    let least = least_ample(witnesses);
-    take(least as u32)
+    Ok(Toad(least_ample(witnesses) as u32))
 }
 
 fn in_range(toad: u32, witnesses: u64) -> bool
     ensures { result ≡ in_range toad witnesses }
 {
-    if witnesses == 0 {
-        return toad == 0;
-    }
-    if toad == 0 {
-        return false;
-    }
-    toad as u64 <= witnesses
+    (witnesses == 0 && toad == 0) || (1 <= toad && toad as u64 <= witnesses)
 }
 
-pub fn exact(toad: u32, witnesses: u64) -> Taken
-    ensures { result ≡ exact_answer toad witnesses }
+pub fn exact(toad: u32, witnesses: u64) -> Result<Toad, Refusal>
+    ensures { taken_as result ≡ exact_answer toad witnesses }
 {
-    if in_range(toad, witnesses) {
-        return take(toad);
+    if !in_range(toad, witnesses) {
+        return Err(Refusal::OutOfRange { toad, witnesses });
     }
-    refuse(40, toad as u64, witnesses)
+    Ok(Toad(toad))
 }
 
 // No validation: what governs a rotation's threshold is not in the event.
@@ -114,15 +69,16 @@ pub fn from_wire(toad: u32) -> Toad
     Toad(toad)
 }
 
-pub fn check_witness_threshold(toad: u32, witnesses: usize) -> Answer
-    ensures { result ≡ witness_threshold toad witnesses }
+#[tactic(auto, unfolding(crate::specs::Toad::witness_threshold))]
+pub fn check_witness_threshold(toad: u32, witnesses: usize) -> Result<(), Refusal>
+    ensures { answered result ≡ witness_threshold toad witnesses }
 {
-    let count = witnesses as u64;
-    if in_range(toad, count) {
-        return answer::accept();
+    let witnesses = witnesses as u64;
+    if in_range(toad, witnesses) {
+        return Ok(());
     }
     if toad == 0 {
-        return answer::refuse(30, count, 0);
+        return Err(Refusal::WitnessThresholdZeroWithWitnesses { witnesses });
     }
-    answer::refuse(31, toad as u64, count)
+    Err(Refusal::WitnessThresholdExceeded { toad, witnesses })
 }
