@@ -19,12 +19,7 @@ use Rattle.std.specs.Prelude.{nat_eq}
 use Rattle.std.specs.Cmp.Lexicographic.{pointwise}
 use Rattle.std.specs.List.{list_all}
 use Rattle.lists.specs.Lists.{pick, both, either, any, all, same_numbers}
-<<<<<<< HEAD
-use Rattle.std.specs.Prelude.{Option, Some, None}
-use Rattle.lists.proofs.Facts.{both_true, both_assoc, both_in, picks, same-numbers, clash}
-=======
 use Rattle.lists.proofs.Facts.{both_true, both_assoc, picks, same-numbers, clash}
->>>>>>> 4f7c9be041186aeef54398899b0de27ba518b628
 use Rattle.lists.proofs.Padding.{is_padded}
 use Rattle.places.specs.Places.{set_of, with_place}
 use Rattle.places.proofs.Laws.{with, with-set, set_same, set-none, either_false}
@@ -58,65 +53,6 @@ same_raw [] (y ∷ ys) = refl
 same_raw (x ∷ xs) [] = refl
 same_raw (x ∷ xs) (y ∷ ys) = rw (same_raw xs ys) (and_both (eqb x y) (same_numbers xs ys))
 
-<<<<<<< HEAD
--- ---- a place within a list
-module _ (k n : ℕ) where
-  pub within_at : (p : ℕ) → place_within k n ≡ Some p → (p ≡ k) × (ltb k n ≡ true)
-  unfolding place_within
-  within_at p = by_test (ltb k n) refl
-    where
-      by_test : (b : Bool) → ltb k n ≡ b → pick b (Some k) None ≡ Some p → (p ≡ k) × (b ≡ true)
-      by_test true e f = (let g : p ≡ k = cc in g, refl)
-      by_test false e f = let z : ◌≡◌ {A = ℕ} 0 1 = cc in absurd (omega arith)
-
-  within_none : place_within k n ≡ None → ltb k n ≡ false
-  unfolding place_within
-  within_none = by_test (ltb k n)
-    where
-      by_test : (b : Bool) → pick b (Some k) None ≡ None → b ≡ false
-      by_test true f = let z : ◌≡◌ {A = ℕ} 0 1 = cc in absurd (omega arith)
-      by_test false f = refl
-
--- ---- the ways through the step
-made : {v w x y : ℕ} → v ≡ w → x ≡ y → ◌≡◌ {A = Counted} (record { verified = v; exposed = x }) (record { verified = w; exposed = y })
-made e f = cc
-
-module _ (next set : ℕ) (s : Siger) where
-  pub exposed_off : s.dual ≡ false → set ≡ exposed_with next set s
-  unfolding exposed_with
-  exposed_off e = rw (both_left s.dual (both (ltb s.ondex.0 next) s.matches) e)
-
-  pub exposed_past : place_within s.ondex.0 next ≡ None → set ≡ exposed_with next set s
-  unfolding exposed_with
-  exposed_past e = rw (both_right s.dual _ (both_left _ s.matches (within_none s.ondex.0 next e)))
-
-  pub exposed-not : s.matches ≡ false → set ≡ exposed_with next set s
-  unfolding exposed_with
-  exposed-not e = rw (both_right s.dual _ (both_right (ltb s.ondex.0 next) _ e))
-
-  pub exposed_in : (p : ℕ) → s.dual ≡ true → place_within s.ondex.0 next ≡ Some p → s.matches ≡ true → with_place set p ≡ exposed_with next set s
-  unfolding exposed_with
-  exposed_in p d e m =
-      let f = within_at s.ondex.0 next p e in
-      rw (both_in s.dual _ d (both_in (ltb s.ondex.0 next) _ f.1 m)) (ap (with_place set) f.0)
-
-module _ (keys next : ℕ) (c : Counted) (s : Siger) where
-  pub counted_off : s.verified ≡ false → c ≡ counted_with keys next c s
-  unfolding counted_with
-  counted_off e = rw (both_left s.verified (ltb s.index.0 keys) e)
-
-  pub counted_past : place_within s.index.0 keys ≡ None → c ≡ counted_with keys next c s
-  unfolding counted_with
-  counted_past e = rw (both_right s.verified _ (within_none s.index.0 keys e))
-
-  pub counted_in_lem : (p v x : ℕ) → s.verified ≡ true → place_within s.index.0 keys ≡ Some p → v ≡ with_place c.verified p → x ≡ exposed_with next c.exposed s
-      → record { verified = v; exposed = x } ≡ counted_with keys next c s
-  unfolding counted_with
-  counted_in_lem p v x g e h k =
-      let f = within_at s.index.0 keys p e in
-      rw (both_in s.verified (ltb s.index.0 keys) g f.1) (made (h ∙ ap (with_place c.verified) f.0) k)
-
-=======
 pub list_all_is : {A : Type 0} (f : A → Bool) (xs : List A) → list_all f xs ≡ all f xs
 unfolding all
 list_all_is f [] = refl
@@ -125,7 +61,6 @@ list_all_is f (x ∷ xs) = rw (list_all_is f xs) (and_both (f x) (all f xs))
 made : {v w x y : ℕ} → v ≡ w → x ≡ y → ◌≡◌ {A = Counted} (record { verified = v; exposed = x }) (record { verified = w; exposed = y })
 made e f = cc
 
->>>>>>> 4f7c9be041186aeef54398899b0de27ba518b628
 -- ---- one more signature
 firsts_more : (before xs : List Siger) (s : Siger) → firsts before (xs ++ (s ∷ [])) ≡ firsts before xs ++ pick (any (same_wire s) (before ++ xs)) [] (s ∷ [])
 unfolding firsts

@@ -2,10 +2,6 @@
 -- signature and on the digest.
 use Rattle.std.specs.Prelude.{ℕ, List, [], ◌∷◌, ◌++◌, Bool, true, false, Option, Some, None, eqb, ltb, leb, length, take, drop, replicate}
 use Rattle.lists.specs.Lists.{pick, both, either, any, all, same_numbers, padded}
-<<<<<<< HEAD
-use Rattle.std.specs.Prelude.{Option, Some, None}
-=======
->>>>>>> 4f7c9be041186aeef54398899b0de27ba518b628
 use Rattle.places.specs.Places.{chosen, set_of, with_place}
 use Rattle.verification.specs.declared.Index.{Index}
 use Rattle.verification.specs.declared.Ondex.{Ondex}

@@ -9,10 +9,7 @@ ghost use Rattle.firsts.specs.Firsts.{has_first};
 ghost use Rattle.verification.specs.Verification.{signatures, same_wire, place_within, key_place, commitment_place};
 ghost use Rattle.verification.specs.Verification.{exposed_with, counted_with, counted_of, claimed, claim_of, no_siger, ondex_fits, zero_siger, shape_of};
 
-<<<<<<< HEAD
-=======
 use answer::Refusal;
->>>>>>> 4f7c9be041186aeef54398899b0de27ba518b628
 
 #[derive(Clone, Copy, PartialEq, Eq)]
 pub struct Index(pub u32);
@@ -81,23 +78,12 @@ pub fn same_wire(a: Siger, b: Siger) -> bool
         && a.raw == b.raw
 }
 
-<<<<<<< HEAD
-=======
 #[tactic(auto, unfolding(crate::specs::Verification::place_within))]
->>>>>>> 4f7c9be041186aeef54398899b0de27ba518b628
 fn within(place: u32, n: usize) -> Option<usize>
     ensures { result ≡ place_within place n }
 {
     let at = place as usize;
-<<<<<<< HEAD
-    if at < n {
-        Some(at)
-    } else {
-        None
-    }
-=======
     (at < n).then_some(at)
->>>>>>> 4f7c9be041186aeef54398899b0de27ba518b628
 }
 
 pub fn key_place(index: Index, keys: usize) -> Option<usize>
@@ -117,23 +103,9 @@ pub fn commitment_place(ondex: Ondex, next: usize) -> Option<usize>
 fn exposed_with(set: u16, s: Claim, next: usize) -> u16
     ensures { result ≡ exposed_with next set (claimed s) }
 {
-<<<<<<< HEAD
-    let ondex = s.ondex;
-    if !s.dual {
-        return set;
-    }
-    let Some(place) = commitment_place(ondex, next) else {
-        return set;
-    };
-    if s.matches {
-        places::with_place(set, place as u32)
-    } else {
-        set
-=======
     match commitment_place(s.ondex, next) {
         Some(place) if s.dual && s.matches => places::with_place(set, place as u32),
         _ => set,
->>>>>>> 4f7c9be041186aeef54398899b0de27ba518b628
     }
 }
 
@@ -142,27 +114,12 @@ fn exposed_with(set: u16, s: Claim, next: usize) -> u16
 pub fn counted_claim(c: Counted, s: Claim, keys: usize, next: usize) -> Counted
     ensures { result ≡ counted_with keys next c (claimed s) }
 {
-<<<<<<< HEAD
-    let index = s.index;
-    if !s.verified {
-        return c;
-    }
-    let Some(place) = key_place(index, keys) else {
-        return c;
-    };
-    let verified = places::with_place(c.verified, place as u32);
-    let exposed = exposed_with(c.exposed, s, next);
-    Counted {
-        verified: verified,
-        exposed: exposed,
-=======
     match key_place(s.index, keys) {
         Some(place) if s.verified => Counted {
             verified: places::with_place(c.verified, place as u32),
             exposed: exposed_with(c.exposed, s, next),
         },
         _ => c,
->>>>>>> 4f7c9be041186aeef54398899b0de27ba518b628
     }
 }
 
