@@ -5,38 +5,30 @@ use mathlib.Core.List.{List, []}
 use Prim.Native.Nat.{ℕ}
 use native.Mathlib.Nat.{le_refl}
 use lib.ListN.{length}
-use Rattle.item.specs.declared.Item.{Item}
 use Rattle.item.specs.declared.Kind.TheVariants.{Prefix, Key, Said}
 use Rattle.items.specs.declared.Items.{Items}
 use Rattle.items.specs.Items.{packed}
 use Rattle.config.specs.declared.Config.{Config}
 use Rattle.config.specs.Config.{packed_traits}
-use Rattle.threshold.specs.declared.Threshold.{Threshold}
-use Rattle.authority.specs.declared.Authority.{Authority}
-use Rattle.authority.specs.declared.Commitment.{Commitment}
-use Rattle.event.specs.declared.Head.{Head}
-use Rattle.event.specs.declared.Body.{Body}
 use Rattle.state.specs.State.{no_threshold}
 use Rattle.format.specs.Parse.{num_at}
 use Rattle.format.specs.Fields.{sn_at}
 use Rattle.layout.specs.Records.{first_head_at, later_head_at, authority_at, commitment_at, inception_body_at, rotation_body_at, no_body}
+use Rattle.cursor.specs.declared.Listing.{Listing}
 use Rattle.cursor.specs.Spans.{mapped}
 use Rattle.cursor.proofs.Laws.{as_is, at_place, flat, many_none}
 use Rattle.field.specs.Field.{place_at, items_place_at, config_place_at, byte_of, item_of, items_of, config_of}
 use Rattle.field.proofs.Laws.{item_none, item_value, items_value, config_value}
 use Rattle.threshold_field.specs.ThresholdField.{marks_at, threshold_of, simple_marks, weight_of}
 use Rattle.threshold_field.proofs.Laws.{threshold_values}
-use Rattle.parts.specs.declared.HeadMarks.{HeadMarks}
-use Rattle.parts.specs.declared.QuorumMarks.{QuorumMarks}
-use Rattle.parts.specs.declared.BodyMarks.{BodyMarks}
 use Rattle.parts.specs.Parts.{first_head_places, later_head_places, quorum_places, signers_places, inception_body_places, rotation_body_places, no_body_marks, head_of, authority_of, commitment_of, body_of}
 
 -- what stands at a list's count and first place
-abbrev pub items_as : List ℕ → ℕ × ℕ → Items
-items_as s m = items_of s m.0 m.1
+abbrev pub items_as : List ℕ → Listing → Items
+items_as s m = items_of s m.count m.first
 
-abbrev pub config_as : List ℕ → ℕ × ℕ → Config
-config_as s m = config_of s m.0 m.1
+abbrev pub config_as : List ℕ → Listing → Config
+config_as s m = config_of s m.count m.first
 
 -- ---- Nothing, nowhere
 no_items : (s : List ℕ) → items_of s 0 0 ≡ packed []
@@ -104,24 +96,3 @@ module _ (s : List ℕ) (at : ℕ) where
       at_place (body_of s) (items_as s) (items_place_at Key s q) _ _ _ (items_value Key s q) λ x t.
       at_place (body_of s) (items_as s) (items_place_at Key s t) _ _ _ (items_value Key s t) λ y u.
       as_is (body_of s) (num_at 4 s u) _ _ λ toad n. rw (no_traits s)))
-
--- ---- What a copy holds
-module _ (s : List ℕ) where
-  pub head_is_lem : (m : HeadMarks) {p d r : Item} → p ≡ item_of s m.prefix → d ≡ item_of s m.said → r ≡ item_of s m.prior
-      → ◌≡◌ {A = Head} (record { prefix = p; sn = m.sn; said = d; prior = r }) (head_of s m)
-  head_is_lem m a b c = rw (a, b, c)
-
-  pub authority_is : (m : QuorumMarks) {k : Items} {t : Threshold} → k ≡ items_of s m.items.count m.items.first → t ≡ threshold_of s m.threshold
-      → ◌≡◌ {A = Authority} (record { keys = k; threshold = t }) (authority_of s m)
-  authority_is m a b = rw (a, b)
-
-  pub commitment_is : (m : QuorumMarks) {k : Items} {t : Threshold} → k ≡ items_of s m.items.count m.items.first → t ≡ threshold_of s m.threshold
-      → ◌≡◌ {A = Commitment} (record { next = k; threshold = t }) (commitment_of s m)
-  commitment_is m a b = rw (a, b)
-
-  pub body_is_lem : (m : BodyMarks) {a : Authority} {c : Commitment} {x y : Items} {f : Config}
-      → a ≡ authority_of s m.signers.authority → c ≡ commitment_of s m.signers.commitment
-      → x ≡ items_of s m.additions.count m.additions.first → y ≡ items_of s m.removals.count m.removals.first
-      → f ≡ config_of s m.config.count m.config.first
-      → ◌≡◌ {A = Body} (record { authority = a; commitment = c; additions = x; removals = y; toad = m.toad; config = f }) (body_of s m)
-  body_is_lem m p q r t u = rw (p, q, r, t, u)

@@ -7,59 +7,20 @@ use Rattle.authority.specs.declared.Authority.{Authority}
 use Rattle.authority.specs.declared.Commitment.{Commitment}
 use Rattle.event.specs.declared.Head.{Head}
 use Rattle.event.specs.declared.Body.{Body}
-use Rattle.format.specs.Parse.{Parse, got, bad, ◌>>=◌, num_at}
+use Rattle.format.specs.Parse.{Parse, got, ◌>>=◌, num_at}
 use Rattle.format.specs.Fields.{sn_at}
-use Rattle.field.specs.declared.Span as F
 use Rattle.field.specs.Field.{place_at, items_place_at, config_place_at, item_of, items_of, config_of}
-use Rattle.threshold_field.specs.declared.Marked as M
 use Rattle.threshold_field.specs.ThresholdField.{marks_at, simple_marks, threshold_of}
-use Rattle.parts.specs.declared.Listing.{Listing}
+use Rattle.cursor.specs.declared.Listing.{Listing}
 use Rattle.parts.specs.declared.HeadMarks.{HeadMarks}
 use Rattle.parts.specs.declared.QuorumMarks.{QuorumMarks}
 use Rattle.parts.specs.declared.SignersMarks.{SignersMarks}
 use Rattle.parts.specs.declared.BodyMarks.{BodyMarks}
-use Rattle.parts.specs.declared.HeadScan as H
-use Rattle.parts.specs.declared.QuorumScan as Q
-use Rattle.parts.specs.declared.SignersScan as G
-use Rattle.parts.specs.declared.BodyScan as B
-
--- ---- What a scan gives, as a reading
-abbrev pub head_is : H.HeadScan → Parse HeadMarks
-head_is (H.TheVariants.Of m n) = got m n
-head_is H.TheVariants.Bad = bad 3
-
-abbrev pub quorum_is : Q.QuorumScan → Parse QuorumMarks
-quorum_is (Q.TheVariants.Of m n) = got m n
-quorum_is (Q.TheVariants.No k) = bad k
-
-abbrev pub signers_is : G.SignersScan → Parse SignersMarks
-signers_is (G.TheVariants.Of m n) = got m n
-signers_is (G.TheVariants.No k) = bad k
-
-abbrev pub body_is : B.BodyScan → Parse BodyMarks
-body_is (B.TheVariants.Of m n) = got m n
-body_is (B.TheVariants.No k) = bad k
-
--- the refusal that a scan stopped with; 3 for one that did not stop, which is never asked
-abbrev pub refusal_of_span : F.Span → ℕ
-refusal_of_span (F.TheVariants.Of n p q) = 3
-refusal_of_span (F.TheVariants.No k) = k
-
-abbrev pub refusal_of_marked : M.Marked → ℕ
-refusal_of_marked (M.TheVariants.Of m n) = 3
-refusal_of_marked (M.TheVariants.No k) = k
-
-abbrev pub refusal_of_quorum : Q.QuorumScan → ℕ
-refusal_of_quorum (Q.TheVariants.Of m n) = 3
-refusal_of_quorum (Q.TheVariants.No k) = k
-
-abbrev pub refusal_of_signers : G.SignersScan → ℕ
-refusal_of_signers (G.TheVariants.Of m n) = 3
-refusal_of_signers (G.TheVariants.No k) = k
 
 -- ---- The places
-abbrev pub listing : ℕ × ℕ → Listing
-listing m = record { count = m.0; first = m.1 }
+-- nothing, nowhere
+abbrev pub no_listing : Listing
+no_listing = record { count = 0; first = 0 }
 
 -- an inception has no prior: the end, where copying gives zeros
 unfoldable pub first_head_places : List ℕ → ℕ → Parse HeadMarks
@@ -79,7 +40,7 @@ unfoldable pub quorum_places : Kind → List ℕ → ℕ → Parse QuorumMarks
 quorum_places k s = do
   items ← items_place_at k s
   threshold ← marks_at s
-  got (record { items = listing items; threshold = threshold })
+  got (record { items = items; threshold = threshold })
 
 unfoldable pub signers_places : List ℕ → ℕ → Parse SignersMarks
 signers_places s = do
@@ -96,10 +57,10 @@ inception_body_places s = do
   got (
       record {
         signers = signers;
-        additions = listing witnesses;
-        removals = listing (0, 0);
+        additions = witnesses;
+        removals = no_listing;
         toad = toad;
-        config = listing config;
+        config = config;
       })
 
 unfoldable pub rotation_body_places : List ℕ → ℕ → Parse BodyMarks
@@ -111,24 +72,24 @@ rotation_body_places s = do
   got (
       record {
         signers = signers;
-        additions = listing additions;
-        removals = listing removals;
+        additions = additions;
+        removals = removals;
         toad = toad;
-        config = listing (0, 0);
+        config = no_listing;
       })
 
 -- what an interaction does not have: nothing, nowhere
 abbrev pub no_quorum : QuorumMarks
-no_quorum = record { items = listing (0, 0); threshold = simple_marks 0 }
+no_quorum = record { items = no_listing; threshold = simple_marks 0 }
 
 abbrev pub no_body_marks : BodyMarks
 no_body_marks =
     record {
       signers = record { authority = no_quorum; commitment = no_quorum };
-      additions = listing (0, 0);
-      removals = listing (0, 0);
+      additions = no_listing;
+      removals = no_listing;
       toad = 0;
-      config = listing (0, 0);
+      config = no_listing;
     }
 
 -- ---- What stands at the marks

@@ -10,52 +10,12 @@ use Rattle.format.specs.Parse.{Parse, got, bad, ◌>>=◌, num_at, ended}
 use Rattle.format.specs.Fields.{sn_at, flag_at}
 use Rattle.layout.specs.Records.{latest_at}
 use Rattle.field.specs.Field.{place_at, item_of, items_of, config_of}
-use Rattle.wire.specs.declared.Span as W
 use Rattle.wire.specs.Wire.{sigers_span, sigers_of}
-use Rattle.parts.specs.declared.BodyScan as B
-use Rattle.parts.specs.Parts.{listing, first_head_places, later_head_places, inception_body_places, rotation_body_places, no_body_marks, head_of, authority_of, commitment_of, body_of}
+use Rattle.parts.specs.Parts.{first_head_places, later_head_places, inception_body_places, rotation_body_places, no_body_marks, head_of, authority_of, commitment_of, body_of}
 use Rattle.record.specs.declared.TailMarks.{TailMarks}
 use Rattle.record.specs.declared.EventMarks.{EventMarks}
 use Rattle.record.specs.declared.LastMarks.{LastMarks}
 use Rattle.record.specs.declared.StateMarks.{StateMarks}
-use Rattle.record.specs.declared.TailScan as T
-use Rattle.record.specs.declared.EventScan as E
-use Rattle.record.specs.declared.LastScan as L
-use Rattle.record.specs.declared.StateScan as S
-
--- ---- What a scan gives, as a reading
-abbrev pub tail_is : T.TailScan → Parse TailMarks
-tail_is (T.TheVariants.Of m n) = got m n
-tail_is (T.TheVariants.No k) = bad k
-
-abbrev pub event_is : E.EventScan → Parse EventMarks
-event_is (E.TheVariants.Of m n) = got m n
-event_is (E.TheVariants.No k) = bad k
-
-abbrev pub last_is : L.LastScan → Parse LastMarks
-last_is (L.TheVariants.Of m n) = got m n
-last_is L.TheVariants.Bad = bad 3
-
-abbrev pub state_is : S.StateScan → Parse StateMarks
-state_is (S.TheVariants.Of m n) = got m n
-state_is (S.TheVariants.No k) = bad k
-
--- the refusal that a scan stopped with; 3 for one that did not stop, which is never asked
-abbrev pub refusal_of_sigers : W.Span → ℕ
-refusal_of_sigers (W.TheVariants.Of n p q) = 3
-refusal_of_sigers (W.TheVariants.No k) = k
-
-abbrev pub refusal_of_body : B.BodyScan → ℕ
-refusal_of_body (B.TheVariants.Of m n) = 3
-refusal_of_body (B.TheVariants.No k) = k
-
-abbrev pub refusal_of_tail : T.TailScan → ℕ
-refusal_of_tail (T.TheVariants.Of m n) = 3
-refusal_of_tail (T.TheVariants.No k) = k
-
-abbrev pub refusal_of_state : S.StateScan → ℕ
-refusal_of_state (S.TheVariants.Of m n) = 3
-refusal_of_state (S.TheVariants.No k) = k
 
 -- ---- The places
 unfoldable pub tail_places : List ℕ → ℕ → Parse TailMarks
@@ -63,7 +23,7 @@ tail_places s = do
   anchors ← num_at 4 s
   sigs ← sigers_span s
   receipts ← sigers_span s
-  ended s (record { anchors = anchors; sigs = listing sigs; receipts = listing receipts })
+  ended s (record { anchors = anchors; sigs = sigs; receipts = receipts })
 
 unfoldable pub inception_places : List ℕ → ℕ → Parse EventMarks
 inception_places s = do

@@ -4,19 +4,19 @@
 ghost use Rattle.std.specs.Prelude.{◌≡◌};
 ghost use Rattle.event.specs.declared.Ilk.TheVariants.{Inception, Rotation, Interaction};
 ghost use Rattle.layout.specs.Records.{inception_at, rotation_at, interaction_at, snapshot_at};
+ghost use Rattle.cursor.specs.Cursor.{had, scanned};
 ghost use Rattle.cursor.specs.Spans.{mapped};
 ghost use Rattle.evidence.specs.Evidence.{evidence_of};
 ghost use Rattle.wire.specs.Wire.{sigers_of};
-ghost use Rattle.record.specs.Marks.{tail_is, event_is, last_is, state_is, refusal_of_sigers, refusal_of_body, refusal_of_tail, refusal_of_state};
 ghost use Rattle.record.specs.Marks.{tail_places, inception_places, rotation_places, interaction_places, last_places, snapshot_places, state_of, event_of};
 
+use answer::Refusal;
 use authority::Witnessing;
-use cursor::{Num8, Num32};
+use cursor::Listing;
 use evidence::Evidence;
-use field::{Flag, Place, Sn};
 use item::Kind;
 use number::Number;
-use parts::{BodyMarks, BodyScan, HeadMarks, HeadScan, Listing};
+use parts::{BodyMarks, HeadMarks};
 use state::{EstablishmentRef, KeyState};
 
 #[derive(Clone, Copy)]
@@ -49,244 +49,141 @@ pub struct StateMarks {
     pub last: LastMarks,
 }
 
-#[derive(Clone, Copy)]
-enum TailScan {
-    Of(TailMarks, usize),
-    No(u8),
-}
-
-#[derive(Clone, Copy)]
-pub enum EventScan {
-    Of(EventMarks, usize),
-    No(u8),
-}
-
-#[derive(Clone, Copy)]
-enum LastScan {
-    Of(LastMarks, usize),
-    Bad,
-}
-
-#[derive(Clone, Copy)]
-pub enum StateScan {
-    Of(StateMarks, usize),
-    No(u8),
-}
-
-fn refusal_of_sigers(x: wire::Span) -> u8
-    ensures { result ≡ refusal_of_sigers x }
-{
-    match x {
-        wire::Span::Of(_, _, _) => 3,
-        wire::Span::No(k) => k,
-    }
-}
-
-fn refusal_of_body(x: BodyScan) -> u8
-    ensures { result ≡ refusal_of_body x }
-{
-    match x {
-        BodyScan::Of(_, _) => 3,
-        BodyScan::No(k) => k,
-    }
-}
-
-fn refusal_of_tail(x: TailScan) -> u8
-    ensures { result ≡ refusal_of_tail x }
-{
-    match x {
-        TailScan::Of(_, _) => 3,
-        TailScan::No(k) => k,
-    }
-}
-
-pub fn refusal_of_state(x: StateScan) -> u8
-    ensures { result ≡ refusal_of_state x }
-{
-    match x {
-        StateScan::Of(_, _) => 3,
-        StateScan::No(k) => k,
-    }
-}
-
 // "anchor count u32, signatures, receipts", and nothing behind them
-fn scan_tail(s: &[u8], at: usize) -> TailScan
-    ensures { tail_is result ≡ tail_places s.now at }
+#[tactic(auto, unfolding(crate::specs::Marks::tail_places, format::specs::Parse::ended))]
+fn scan_tail(s: &[u8], at: usize) -> Result<(TailMarks, usize), Refusal>
+    ensures { scanned result ≡ tail_places s.now at }
 {
-    let Num32::Of(anchors, p) = cursor::read_u32(s, at) else {
-        return TailScan::No(3);
+    let Some((anchors, p)) = cursor::read_u32(s, at) else {
+        return Err(Refusal::BadField);
     };
-    let signed = wire::scan(s, p);
-    let wire::Span::Of(sig_count, sig_first, q) = signed else {
-        return TailScan::No(refusal_of_sigers(signed));
-    };
-    let receipted = wire::scan(s, q);
-    let wire::Span::Of(count, first, end) = receipted else {
-        return TailScan::No(refusal_of_sigers(receipted));
-    };
+    let (sigs, q) = wire::scan(s, p)?;
+    let (receipts, end) = wire::scan(s, q)?;
     if end != s.len() {
-        return TailScan::No(3);
+        return Err(Refusal::BadField);
     }
-    let sigs = Listing {
-        count: sig_count,
-        first: sig_first,
+    let tail = TailMarks {
+        anchors,
+        sigs,
+        receipts,
     };
-    let receipts = Listing { count, first };
-    TailScan::Of(
-        TailMarks {
-            anchors,
-            sigs,
-            receipts,
-        },
-        end,
-    )
+    Ok((tail, end))
 }
 
-pub fn scan_inception(s: &[u8], at: usize) -> EventScan
-    ensures result_value { event_is result ≡ inception_places s.now at }
-    ensures result_value_2 { mapped (event_of Inception s.now) (event_is result) ≡ inception_at s.now at }
+#[tactic(auto, using(crate::proofs::Laws::inception_value), unfolding(crate::specs::Marks::inception_places))]
+pub fn scan_inception(s: &[u8], at: usize) -> Result<(EventMarks, usize), Refusal>
+    ensures result_value { scanned result ≡ inception_places s.now at }
+    ensures result_value_2 { mapped (event_of Inception s.now) (scanned result) ≡ inception_at s.now at }
 {
-    let HeadScan::Of(head, p) = parts::scan_first_head(s, at) else {
-        return EventScan::No(3);
+    let Some((head, p)) = parts::scan_first_head(s, at) else {
+        return Err(Refusal::BadField);
     };
-    let middle = parts::scan_inception_body(s, p);
-    let BodyScan::Of(body, q) = middle else {
-        return EventScan::No(refusal_of_body(middle));
-    };
-    let rest = scan_tail(s, q);
-    let TailScan::Of(tail, next) = rest else {
-        return EventScan::No(refusal_of_tail(rest));
-    };
-    EventScan::Of(EventMarks { head, body, tail }, next)
+    let (body, q) = parts::scan_inception_body(s, p)?;
+    let (tail, next) = scan_tail(s, q)?;
+    Ok((EventMarks { head, body, tail }, next))
 }
 
-pub fn scan_rotation(s: &[u8], at: usize) -> EventScan
-    ensures result_value { event_is result ≡ rotation_places s.now at }
-    ensures result_value_2 { mapped (event_of Rotation s.now) (event_is result) ≡ rotation_at s.now at }
+#[tactic(auto, using(crate::proofs::Laws::rotation_value), unfolding(crate::specs::Marks::rotation_places))]
+pub fn scan_rotation(s: &[u8], at: usize) -> Result<(EventMarks, usize), Refusal>
+    ensures result_value { scanned result ≡ rotation_places s.now at }
+    ensures result_value_2 { mapped (event_of Rotation s.now) (scanned result) ≡ rotation_at s.now at }
 {
-    let HeadScan::Of(head, p) = parts::scan_later_head(s, at) else {
-        return EventScan::No(3);
+    let Some((head, p)) = parts::scan_later_head(s, at) else {
+        return Err(Refusal::BadField);
     };
-    let middle = parts::scan_rotation_body(s, p);
-    let BodyScan::Of(body, q) = middle else {
-        return EventScan::No(refusal_of_body(middle));
-    };
-    let rest = scan_tail(s, q);
-    let TailScan::Of(tail, next) = rest else {
-        return EventScan::No(refusal_of_tail(rest));
-    };
-    EventScan::Of(EventMarks { head, body, tail }, next)
+    let (body, q) = parts::scan_rotation_body(s, p)?;
+    let (tail, next) = scan_tail(s, q)?;
+    Ok((EventMarks { head, body, tail }, next))
 }
 
-pub fn scan_interaction(s: &[u8], at: usize) -> EventScan
-    ensures result_value { event_is result ≡ interaction_places s.now at }
-    ensures result_value_2 { mapped (event_of Interaction s.now) (event_is result) ≡ interaction_at s.now at }
+#[tactic(auto, using(crate::proofs::Laws::interaction_value), unfolding(crate::specs::Marks::interaction_places))]
+pub fn scan_interaction(s: &[u8], at: usize) -> Result<(EventMarks, usize), Refusal>
+    ensures result_value { scanned result ≡ interaction_places s.now at }
+    ensures result_value_2 { mapped (event_of Interaction s.now) (scanned result) ≡ interaction_at s.now at }
 {
-    let HeadScan::Of(head, p) = parts::scan_later_head(s, at) else {
-        return EventScan::No(3);
+    let Some((head, p)) = parts::scan_later_head(s, at) else {
+        return Err(Refusal::BadField);
     };
-    let rest = scan_tail(s, p);
-    let TailScan::Of(tail, next) = rest else {
-        return EventScan::No(refusal_of_tail(rest));
-    };
+    let (tail, next) = scan_tail(s, p)?;
     let body = parts::no_body();
-    EventScan::Of(EventMarks { head, body, tail }, next)
+    Ok((EventMarks { head, body, tail }, next))
 }
 
 // "transferable 0 or 1, last establishment sn and said", and nothing behind them
-fn scan_last(s: &[u8], at: usize) -> LastScan
-    ensures { last_is result ≡ last_places s.now at }
+#[tactic(auto, unfolding(crate::specs::Marks::last_places, format::specs::Parse::ended))]
+fn scan_last(s: &[u8], at: usize) -> Option<(LastMarks, usize)>
+    ensures { had result ≡ last_places s.now at }
 {
-    let Flag::Of(transferable, p) = field::read_flag(s, at) else {
-        return LastScan::Bad;
+    let Some((transferable, p)) = field::read_flag(s, at) else {
+        return None;
     };
-    let Sn::Of(sn, q) = field::read_sn(s, p) else {
-        return LastScan::Bad;
+    let Some((sn, q)) = field::read_sn(s, p) else {
+        return None;
     };
-    let Place::At(said, end) = field::scan_item(s, q, Kind::Said) else {
-        return LastScan::Bad;
+    let Some((said, end)) = field::scan_item(s, q, Kind::Said) else {
+        return None;
     };
     if end != s.len() {
-        return LastScan::Bad;
+        return None;
     }
-    LastScan::Of(
-        LastMarks {
-            transferable,
-            sn,
-            said,
-        },
-        end,
-    )
+    let last = LastMarks {
+        transferable,
+        sn,
+        said,
+    };
+    Some((last, end))
 }
 
 // A snapshot has what an inception sets up between its latest type and its flag.
-pub fn scan_snapshot(s: &[u8], at: usize) -> StateScan
-    ensures result_value { state_is result ≡ snapshot_places s.now at }
-    ensures result_value_2 { mapped (state_of s.now) (state_is result) ≡ snapshot_at s.now at }
+#[tactic(auto, using(crate::proofs::Laws::snapshot_value), unfolding(crate::specs::Marks::snapshot_places, layout::specs::Records::latest_at))]
+pub fn scan_snapshot(s: &[u8], at: usize) -> Result<(StateMarks, usize), Refusal>
+    ensures result_value { scanned result ≡ snapshot_places s.now at }
+    ensures result_value_2 { mapped (state_of s.now) (scanned result) ≡ snapshot_at s.now at }
 {
-    let HeadScan::Of(head, p) = parts::scan_first_head(s, at) else {
-        return StateScan::No(3);
+    let Some((head, p)) = parts::scan_first_head(s, at) else {
+        return Err(Refusal::BadField);
     };
-    let Num8::Of(latest, q) = cursor::read_u8(s, p) else {
-        return StateScan::No(3);
+    let Some((latest, q)) = cursor::read_u8(s, p) else {
+        return Err(Refusal::BadField);
     };
     if 2 < latest {
-        return StateScan::No(3);
+        return Err(Refusal::BadField);
     }
-    let middle = parts::scan_inception_body(s, q);
-    let BodyScan::Of(body, t) = middle else {
-        return StateScan::No(refusal_of_body(middle));
+    let (body, r) = parts::scan_inception_body(s, q)?;
+    let Some((last, next)) = scan_last(s, r) else {
+        return Err(Refusal::BadField);
     };
-    let LastScan::Of(last, next) = scan_last(s, t) else {
-        return StateScan::No(3);
+    let state = StateMarks {
+        head,
+        latest,
+        body,
+        last,
     };
-    StateScan::Of(
-        StateMarks {
-            head,
-            latest,
-            body,
-            last,
-        },
-        next,
-    )
+    Ok((state, next))
 }
 
 pub fn copy_state(s: &[u8], m: StateMarks) -> KeyState
     ensures { result ≡ state_of s.now m }
 {
-    let head = m.head;
-    let body = m.body;
-    let last = m.last;
-    let h = parts::copy_head(s, head);
-    let b = parts::copy_body(s, body);
-    let last_said = field::copy_item(s, last.said);
-    let last_sn = last.sn;
-    let prefix = h.prefix;
-    let sn = h.sn;
-    let said = h.said;
-    let authority = b.authority;
-    let commitment = b.commitment;
-    let witnesses = b.additions;
-    let config = b.config;
-    let witnessing = Witnessing {
-        witnesses,
-        toad: b.toad,
-    };
-    let establishment = EstablishmentRef {
-        sn: last_sn,
-        said: last_said,
-    };
+    let head = parts::copy_head(s, m.head);
+    let body = parts::copy_body(s, m.body);
     KeyState {
-        prefix,
-        sn,
-        said,
+        prefix: head.prefix,
+        sn: head.sn,
+        said: head.said,
         latest: m.latest,
-        authority,
-        commitment,
-        witnessing,
-        config,
-        transferable: last.transferable,
-        last: establishment,
+        authority: body.authority,
+        commitment: body.commitment,
+        witnessing: Witnessing {
+            witnesses: body.additions,
+            toad: body.toad,
+        },
+        config: body.config,
+        transferable: m.last.transferable,
+        last: EstablishmentRef {
+            sn: m.last.sn,
+            said: field::copy_item(s, m.last.said),
+        },
     }
 }
 
@@ -294,10 +191,8 @@ pub fn copy_state(s: &[u8], m: StateMarks) -> KeyState
 pub fn gather(s: &[u8], t: TailMarks, keys: usize, next: usize) -> Evidence
     ensures { result ≡ evidence_of keys next (sigers_of s.now t.sigs.count t.sigs.first) (sigers_of s.now t.receipts.count t.receipts.first) }
 {
-    let sigs = t.sigs;
-    let receipts = t.receipts;
-    let own = wire::count(s, sigs.first, sigs.count, keys, next);
-    let seen = wire::count(s, receipts.first, receipts.count, 16, 0);
+    let own = wire::count(s, t.sigs, keys, next);
+    let seen = wire::count(s, t.receipts, 16, 0);
     Evidence {
         verified: own.verified,
         exposed: own.exposed,
