@@ -19,6 +19,7 @@ use Rattle.lists.proofs.Facts.{both_true, both_on, both_off}
 use Rattle.lists.proofs.Walks.{same_stop, same_more, same_over}
 use Rattle.format.specs.Parse.{Parse, got, bad, bind, byte_at, be_from, num_at, raw_at}
 use Rattle.format.specs.Fields.{flag_at, ondex_at, siger_at, sigers_at}
+use Rattle.cursor.specs.declared.Listing.{Listing}
 use Rattle.cursor.specs.Cursor.{raw_of}
 use Rattle.cursor.specs.Spans.{mapped, list_of}
 use Rattle.cursor.proofs.Laws.{Agree, had, refused, num_got, byte_got, byte-short, raw_got, list-none, list-next, many_over, many_short, many_got, span_values}
@@ -162,8 +163,8 @@ module _ (s : List ℕ) (at : ℕ) where
   one_further : (n p : ℕ) → p < n → sigers (p + 1) ≡ sigers p ++ (siger p ∷ [])
   one_further n p h = list-next (siger_of s) 76 p at
 
-  pub firsts-none : firsts_from s at 0 ≡ 0
-  firsts-none = none_yet_lem same_wire siger sigers
+  pub firsts_none : firsts_from s at 0 ≡ 0
+  firsts_none = none_yet_lem same_wire siger sigers
 
   -- before the first position there is none
   pub none_before : (x : Siger) → any (same_wire x) (sigers 0) ≡ false
@@ -171,18 +172,18 @@ module _ (s : List ℕ) (at : ℕ) where
   none_before x = refl
 
   module _ (i set : ℕ) (e : set ≡ firsts_from s at i) where
-    pub firsts-kept : any (same_wire (siger i)) (sigers i) ≡ true → set ≡ firsts_from s at (i + 1)
-    firsts-kept f = e ∙ first-kept same_wire siger sigers i f
+    pub firsts_kept : any (same_wire (siger i)) (sigers i) ≡ true → set ≡ firsts_from s at (i + 1)
+    firsts_kept f = e ∙ first-kept same_wire siger sigers i f
 
-    pub firsts-with : i < 64 → any (same_wire (siger i)) (sigers i) ≡ false → with_first set i ≡ firsts_from s at (i + 1)
-    firsts-with h f = rw e (first_more same_wire siger sigers i h f)
+    pub firsts_with : i < 64 → any (same_wire (siger i)) (sigers i) ≡ false → with_first set i ≡ firsts_from s at (i + 1)
+    firsts_with h f = rw e (first_more same_wire siger sigers i h f)
 
-    module _ (x : Siger) (j q : ℕ) (h : j < i) (k : q ≡ at + j * 76) where
-      pub list_copy : both (has_first set j) (same_wire x (siger_of s q)) ≡ true → any (same_wire x) (sigers i) ≡ true
-      list_copy f = is_copy same_wire siger sigers wire_trans i (one_further i) x i j h (le_refl i) (rw (e, k) at f)
+    module _ (x : Siger) (j : ℕ) (h : j < i) where
+      pub list_copy : both (has_first set j) (same_wire x (siger j)) ≡ true → any (same_wire x) (sigers i) ≡ true
+      list_copy f = is_copy same_wire siger sigers wire_trans i (one_further i) x i j h (le_refl i) (rw e at f)
 
-      pub list_other : i ≤ 64 → any (same_wire x) (sigers j) ≡ false → both (has_first set j) (same_wire x (siger_of s q)) ≡ false → any (same_wire x) (sigers (j + 1)) ≡ false
-      list_other w d f = no_copy same_wire siger sigers wire_trans i (one_further i) x i j h (le_refl i) w d (rw (e, k) at f)
+      pub list_other : i ≤ 64 → any (same_wire x) (sigers j) ≡ false → both (has_first set j) (same_wire x (siger j)) ≡ false → any (same_wire x) (sigers (j + 1)) ≡ false
+      list_other w d f = no_copy same_wire siger sigers wire_trans i (one_further i) x i j h (le_refl i) w d (rw e at f)
 
 -- ---- the sets of places
 pub claim_is : (s : List ℕ) (p : ℕ) {i o : ℕ} → i ≡ word_of s (p + 1) → o ≡ word_of s (p + 6)
@@ -202,16 +203,16 @@ module _ (keys next : ℕ) (s : List ℕ) (at : ℕ) where
   abbrev counted : ℕ → Counted
   counted i = counted_of keys next (list_of (siger_of s) 76 i at)
 
-  module _ (i p : ℕ) (c : Counted) (h : p ≡ at + i * 76) (e : c ≡ counted i) where
+  module _ (i : ℕ) (c : Counted) (e : c ≡ counted i) where
     abbrev copied : Bool
-    copied = any (same_wire (siger_of s p)) (list_of (siger_of s) 76 i at)
+    copied = any (same_wire (siger_of s (at + i * 76))) (list_of (siger_of s) 76 i at)
 
-    pub next-copy : copied ≡ true → c ≡ counted (i + 1)
-    next-copy f = rw (list-next (siger_of s) 76 i at, ← h) (e ∙ counted-copy keys next (list_of (siger_of s) 76 i at) (siger_of s p) f)
+    pub next_copy : copied ≡ true → c ≡ counted (i + 1)
+    next_copy f = rw (list-next (siger_of s) 76 i at) (e ∙ counted-copy keys next (list_of (siger_of s) 76 i at) (siger_of s (at + i * 76)) f)
 
-    pub next_more : copied ≡ false → counted_with keys next c (claimed (claim_of (siger_of s p))) ≡ counted (i + 1)
+    pub next_more : copied ≡ false → counted_with keys next c (claimed (claim_of (siger_of s (at + i * 76)))) ≡ counted (i + 1)
     unfolding counted_with exposed_with
-    next_more f = rw (list-next (siger_of s) 76 i at, ← h, e) (counted_more keys next (list_of (siger_of s) 76 i at) (siger_of s p) f)
+    next_more f = rw (list-next (siger_of s) 76 i at, e) (counted_more keys next (list_of (siger_of s) 76 i at) (siger_of s (at + i * 76)) f)
 
   abbrev zero-set : Counted
   zero-set = record { verified = 0; exposed = 0 }
@@ -220,14 +221,14 @@ module _ (keys next : ℕ) (s : List ℕ) (at : ℕ) where
   count_none = rw (list-none (siger_of s) 76 at) (sym (counted_none keys next))
 
   module _ (n : ℕ) where
-    pub count-over : 48 < n → zero-set ≡ counted_of keys next (sigers_of s n at)
-    count-over h = rw (many_over (siger_of s) 76 48 s n at h) (sym (counted_none keys next))
+    pub count_over : 48 < n → zero-set ≡ counted_of keys next (sigers_of s n at)
+    count_over h = rw (many_over (siger_of s) 76 48 s n at h) (sym (counted_none keys next))
 
-    pub count-short : n ≤ 48 → length s < at + n * 76 → zero-set ≡ counted_of keys next (sigers_of s n at)
-    count-short h k = rw (many_short (siger_of s) 76 48 s n at h k) (sym (counted_none keys next))
+    pub count_short : n ≤ 48 → length s < at + n * 76 → zero-set ≡ counted_of keys next (sigers_of s n at)
+    count_short h k = rw (many_short (siger_of s) 76 48 s n at h k) (sym (counted_none keys next))
 
-    pub count-all : (i : ℕ) (c : Counted) → n ≤ 48 → at + n * 76 ≤ length s → i ≡ n → c ≡ counted i → c ≡ counted_of keys next (sigers_of s n at)
-    count-all i c h k d e = rw (many_got (siger_of s) 76 48 s n at h k, ← d) e
+    pub count_all : (i : ℕ) (c : Counted) → n ≤ 48 → at + n * 76 ≤ length s → i ≡ n → c ≡ counted i → c ≡ counted_of keys next (sigers_of s n at)
+    count_all i c h k d e = rw (many_got (siger_of s) 76 48 s n at h k, ← d) e
 
 -- ---- by values: each field in turn, had with its value and the place behind it
 module _ (s : List ℕ) where
@@ -344,13 +345,13 @@ module _ (s : List ℕ) where
           let h = leb-false (at + 76) (length s) e in
           refused 3 (place_bad s at (shaped-short s at h)) (siger-short at h)
 
-  packs : {A B : Type 0} (f : A → B) (x : Parse (ℕ × ℕ)) (v : ℕ × ℕ → A) → mapped (λ (m : ℕ × ℕ). f (v m)) x ≡ bind (mapped v x) (λ a q. got (f a) q)
+  packs : {A B : Type 0} (f : A → B) (x : Parse Listing) (v : Listing → A) → mapped (λ (m : Listing). f (v m)) x ≡ bind (mapped v x) (λ a q. got (f a) q)
   packs f (got m q) v = refl
   packs f (bad r) v = refl
 
   -- the signatures at the places that a scan gave are those of the record
-  pub sigers_values : (at : ℕ) → mapped (λ (m : ℕ × ℕ). packed_sigers (sigers_of s m.0 m.1)) (sigers_span s at) ≡ sigers_at s at
+  pub sigers_values : (at : ℕ) → mapped (λ (m : Listing). packed_sigers (sigers_of s m.count m.first)) (sigers_span s at) ≡ sigers_at s at
   unfolding sigers_at
   sigers_values at =
-      packs packed_sigers (sigers_span s at) (λ (m : ℕ × ℕ). sigers_of s m.0 m.1)
+      packs packed_sigers (sigers_span s at) (λ (m : Listing). sigers_of s m.count m.first)
       ∙ ap (λ (x : Parse (List Siger)). bind x (λ xs q. got (packed_sigers xs) q)) (span_values (place_at s) (siger_at s) (siger_of s) 76 48 s siger_values at)
