@@ -60,9 +60,9 @@ module _ (s : List ℕ) (at : ℕ) where
   unfolding shaped_at
   shaped_rest h f e v = rw (le-leb _ _ h, le-leb _ _ f, e, le-leb _ _ v)
 
-  pub shaped-room : shaped_at s at ≡ true → at + 76 ≤ length s
+  pub shaped_room : shaped_at s at ≡ true → at + 76 ≤ length s
   unfolding shaped_at
-  shaped-room e = leb-true (at + 76) (length s) (both_true (leb (at + 76) (length s)) _ e).0
+  shaped_room e = leb-true (at + 76) (length s) (both_true (leb (at + 76) (length s)) _ e).0
 
   pub place_got : shaped_at s at ≡ true → place_at s at ≡ got at (at + 76)
   unfolding place_at

@@ -41,7 +41,17 @@ fn shaped(s: &[u8], at: usize) -> bool
 }
 
 // A count byte of at most 48, and as many signatures, each whole and of its classes: where they stand, and the place behind the last.
-#[tactic(auto, using(cursor::proofs::Laws::span_short, cursor::proofs::Laws::span_many), unfolding(crate::specs::Wire::place_at))]
+#[tactic(auto, using(
+    cursor::proofs::Laws::span_short,
+    cursor::proofs::Laws::span_many,
+    cursor::proofs::Laws::span_bad,
+    cursor::proofs::Laws::span_got,
+    cursor::proofs::Laws::runs_more,
+    cursor::proofs::Laws::runs_stop,
+    crate::proofs::Laws::shaped_room,
+    crate::proofs::Laws::place_got,
+    crate::proofs::Laws::place_bad,
+))]
 pub fn scan(s: &[u8], at: usize) -> Result<(Listing, usize), Refusal>
     ensures { scanned result ≡ sigers_span s.now at }
 {

@@ -4,4 +4,4 @@ use Rattle.wire.specs.Wire.{place_at}
 use Rattle.wire.proofs.scan.Given as goal
 
 abbrev pub invariant-loop : goal.invariant-loop
-invariant-loop l = ?
+invariant-loop l = runs (place_at l.s) l.count l.first ≡ runs (place_at l.s) (l.count - l.counter) l.next
