@@ -34,31 +34,9 @@ use Rattle.wire.specs.Wire.{word_of, siger_of, sigers_of, firsts_from, shaped_at
 
 -- ---- shape
 module _ (s : List ℕ) (at : ℕ) where
-  abbrev flag : ℕ
-  flag = get_or s (at + 5) 0
-
-  abbrev Fits : Bool → Type 0
-  Fits b = either (eqb flag 1) (eqb (word_of s (at + 6)) 0) ≡ b
-
   pub shaped-short : length s < at + 76 → shaped_at s at ≡ false
   unfolding shaped_at
   shaped-short h = rw (lt-leb _ _ h)
-
-  pub shaped-flag : at + 76 ≤ length s → 1 < flag → shaped_at s at ≡ false
-  unfolding shaped_at
-  shaped-flag h f = rw (le-leb _ _ h, lt-leb _ _ f)
-
-  pub shaped_ondex : at + 76 ≤ length s → flag ≤ 1 → Fits false → shaped_at s at ≡ false
-  unfolding shaped_at
-  shaped_ondex h f e = rw (le-leb _ _ h, le-leb _ _ f, e)
-
-  pub shaped_verified : at + 76 ≤ length s → flag ≤ 1 → Fits true → 1 < get_or s (at + 74) 0 → shaped_at s at ≡ false
-  unfolding shaped_at
-  shaped_verified h f e v = rw (le-leb _ _ h, le-leb _ _ f, e, lt-leb _ _ v)
-
-  pub shaped_rest : at + 76 ≤ length s → flag ≤ 1 → Fits true → get_or s (at + 74) 0 ≤ 1 → shaped_at s at ≡ leb (get_or s (at + 75) 0) 1
-  unfolding shaped_at
-  shaped_rest h f e v = rw (le-leb _ _ h, le-leb _ _ f, e, le-leb _ _ v)
 
   pub shaped_room : shaped_at s at ≡ true → at + 76 ≤ length s
   unfolding shaped_at
@@ -90,31 +68,25 @@ module _ (n : ℕ) (s : List ℕ) (p q i : ℕ) (hp : p + n ≤ length s) (hq : 
       let b : i < length (take n (drop q s)) = omega (arith, run_length q hq) in
       same_stop (take n (drop p s)) (take n (drop q s)) i a b (λ e. d (sym (run_at p h) ∙ e ∙ run_at q h))
 
-  pub run_more : i < n → (so : Bool) → both so (left n s p q i) ≡ both (so && eqb (get_or s (p + i) 0) (get_or s (q + i) 0)) (left n s p q (i + 1))
-  run_more h so =
-      let a : i < length (take n (drop p s)) = omega (arith, run_length p hp) in
-      let b : i < length (take n (drop q s)) = omega (arith, run_length q hq) in
-      rw (← run_at p h, ← run_at q h) (same_more (take n (drop p s)) (take n (drop q s)) i a b so)
+  module _ (so : Bool) {x : Bool} (e : x ≡ both so (left n s p q i)) where
+    pub run_more : i < n → x ≡ both (so && eqb (get_or s (p + i) 0) (get_or s (q + i) 0)) (left n s p q (i + 1))
+    run_more h =
+        let a : i < length (take n (drop p s)) = omega (arith, run_length p hp) in
+        let b : i < length (take n (drop q s)) = omega (arith, run_length q hq) in
+        e ∙ rw (← run_at p h, ← run_at q h) (same_more (take n (drop p s)) (take n (drop q s)) i a b so)
 
-  pub run-over : n ≤ i → (so : Bool) → both so (left n s p q i) ≡ so
-  run-over h so =
-      let a : length (take n (drop p s)) ≤ i = omega (arith, run_length p hp) in
-      let b : length (take n (drop q s)) ≤ i = omega (arith, run_length q hq) in
-      same_over (take n (drop p s)) (take n (drop q s)) i so a b
+    pub run_over : n ≤ i → so ≡ x
+    run_over h =
+        let a : length (take n (drop p s)) ≤ i = omega (arith, run_length p hp) in
+        let b : length (take n (drop q s)) ≤ i = omega (arith, run_length q hq) in
+        sym (e ∙ same_over (take n (drop p s)) (take n (drop q s)) i so a b)
 
 pub other_too : (a b : Bool) → b ≡ false → both a b ≡ false
 other_too a b e = rw (e, both_off a)
 
-pub flag_off : (b : Bool) → not b ≡ same_flag false b
-flag_off true = refl
-flag_off false = refl
-
 module _ (s : List ℕ) (p q : ℕ) (hp : p + 76 ≤ length s) (hq : q + 76 ≤ length s) where
   abbrev Raw : Bool → Type 0
   Raw b = same_numbers (take 64 (drop (p + 10) s)) (take 64 (drop (q + 10) s)) ≡ b
-
-  abbrev Flag : Bool → Type 0
-  Flag b = same_flag (eqb (get_or s (p + 5) 0) 1) (eqb (get_or s (q + 5) 0) 1) ≡ b
 
   abbrev wire : Bool
   wire = same_wire (siger_of s p) (siger_of s q)
@@ -139,18 +111,6 @@ module _ (s : List ℕ) (p q : ℕ) (hp : p + 76 ≤ length s) (hq : q + 76 ≤ 
       let a : p + 10 + 0 ≡ p + 10 = omega arith in
       let b : q + 10 + 0 ≡ q + 10 = omega arith in
       same-raw (run_stop 64 s (p + 10) (q + 10) 0 (omega arith) (omega arith) (omega arith) (rw (a, b) d))
-
-  pub same_code : (get_or s p 0 ≡ get_or s q 0 → ⊥) → wire ≡ false
-  same_code d = wire_is ∙ rw (ne_eqb _ _ d)
-
-  pub same_index : (word_of s (p + 1) ≡ word_of s (q + 1) → ⊥) → wire ≡ false
-  same_index d = wire_is ∙ rw (ne_eqb (word_of s (p + 1)) (word_of s (q + 1)) d, both_off)
-
-  pub same_dual : Flag false → wire ≡ false
-  same_dual e = wire_is ∙ rw (e, both_off (eqb (word_of s (p + 1)) _), both_off)
-
-  pub same_ondex : Raw true → get_or s p 0 ≡ get_or s q 0 → word_of s (p + 1) ≡ word_of s (q + 1) → Flag true → wire ≡ eqb (word_of s (p + 6)) (word_of s (q + 6))
-  same_ondex r c i f = wire_is ∙ rw (r, eq-eqb (get_or s p 0) _ c, eq-eqb (word_of s (p + 1)) _ i, f, both_on)
 
 -- ---- the search for a copy among the first ones of i
 module _ (s : List ℕ) (at : ℕ) where
@@ -182,23 +142,11 @@ module _ (s : List ℕ) (at : ℕ) where
       pub list_copy : both (has_first set j) (same_wire x (siger j)) ≡ true → any (same_wire x) (sigers i) ≡ true
       list_copy f = is_copy same_wire siger sigers wire_trans i (one_further i) x i j h (le_refl i) (rw e at f)
 
-      pub list_other : i ≤ 64 → any (same_wire x) (sigers j) ≡ false → both (has_first set j) (same_wire x (siger j)) ≡ false → any (same_wire x) (sigers (j + 1)) ≡ false
-      list_other w d f = no_copy same_wire siger sigers wire_trans i (one_further i) x i j h (le_refl i) w d (rw e at f)
+      pub list_other : {b : Bool} → i ≤ 48 → any (same_wire x) (sigers j) ≡ false → b ≡ both (has_first set j) (same_wire x (siger j)) → b ≡ false
+          → any (same_wire x) (sigers (j + 1)) ≡ false
+      list_other w d f g = no_copy same_wire siger sigers wire_trans i (one_further i) x i j h (le_refl i) (omega arith) d (rw e at (sym f ∙ g))
 
 -- ---- the sets of places
-pub claim_is : (s : List ℕ) (p : ℕ) {i o : ℕ} → i ≡ word_of s (p + 1) → o ≡ word_of s (p + 6)
-    → ◌≡◌ {A = Claim}
-    (record {
-      index = record { 0 = i };
-      dual = eqb (get_or s (p + 5) 0) 1;
-      ondex = record { 0 = o };
-      verified = eqb (get_or s (p + 74) 0) 1;
-      matches = eqb (get_or s (p + 75) 0) 1;
-    })
-    (claim_of (siger_of s p))
-unfolding siger_of
-claim_is s p e f = rw (e, f)
-
 module _ (keys next : ℕ) (s : List ℕ) (at : ℕ) where
   abbrev counted : ℕ → Counted
   counted i = counted_of keys next (list_of (siger_of s) 76 i at)
@@ -210,9 +158,9 @@ module _ (keys next : ℕ) (s : List ℕ) (at : ℕ) where
     pub next_copy : copied ≡ true → c ≡ counted (i + 1)
     next_copy f = rw (list-next (siger_of s) 76 i at) (e ∙ counted-copy keys next (list_of (siger_of s) 76 i at) (siger_of s (at + i * 76)) f)
 
-    pub next_more : copied ≡ false → counted_with keys next c (claimed (claim_of (siger_of s (at + i * 76)))) ≡ counted (i + 1)
+    pub next_more : (m : Claim) (r : Counted) → m ≡ claim_of (siger_of s (at + i * 76)) → r ≡ counted_with keys next c (claimed m) → copied ≡ false → r ≡ counted (i + 1)
     unfolding counted_with exposed_with
-    next_more f = rw (list-next (siger_of s) 76 i at, e) (counted_more keys next (list_of (siger_of s) 76 i at) (siger_of s (at + i * 76)) f)
+    next_more m r g d f = d ∙ rw (list-next (siger_of s) 76 i at, g, e) (counted_more keys next (list_of (siger_of s) 76 i at) (siger_of s (at + i * 76)) f)
 
   abbrev zero-set : Counted
   zero-set = record { verified = 0; exposed = 0 }

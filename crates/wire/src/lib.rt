@@ -45,11 +45,8 @@ fn shaped(s: &[u8], at: usize) -> bool
     cursor::proofs::Laws::span_short,
     cursor::proofs::Laws::span_many,
     cursor::proofs::Laws::span_bad,
-    cursor::proofs::Laws::span_got,
-    cursor::proofs::Laws::runs_more,
     cursor::proofs::Laws::runs_stop,
     crate::proofs::Laws::shaped_room,
-    crate::proofs::Laws::place_got,
     crate::proofs::Laws::place_bad,
 ))]
 pub fn scan(s: &[u8], at: usize) -> Result<(Listing, usize), Refusal>
@@ -111,7 +108,7 @@ fn is_copy(s: &[u8], set: u64, j: usize, q: usize, p: usize) -> bool
 }
 
 // Whether the signature at p is a copy of one of the i from a place on, of which the first ones are given.
-#[tactic(auto, using(crate::proofs::Laws::none_before, crate::proofs::Laws::list_copy, crate::proofs::Laws::list_other))]
+#[tactic(auto, using(crate::proofs::Laws::none_before, crate::proofs::Laws::list_copy))]
 fn copied(s: &[u8], at: usize, i: usize, set: u64, p: usize) -> bool
     requires i_bound { i ≤ 48 }
     requires i_in_bounds { at + i * 76 ≤ length s.now }
@@ -148,10 +145,8 @@ fn claim_at(s: &[u8], p: usize) -> Claim
     crate::proofs::Laws::count_short,
     crate::proofs::Laws::count_all,
     crate::proofs::Laws::next_copy,
-    crate::proofs::Laws::next_more,
     crate::proofs::Laws::firsts_none,
     crate::proofs::Laws::firsts_kept,
-    crate::proofs::Laws::firsts_with,
 ))]
 pub fn count(s: &[u8], l: Listing, keys: usize, next: usize) -> Counted
     ensures { result ≡ counted_of keys next (sigers_of s.now l.count l.first) }
