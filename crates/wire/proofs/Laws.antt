@@ -5,7 +5,7 @@
 --     next-..       the sets of places with one signature more
 --     sigers_values   scanning a list and taking the signatures at its places is reading it
 use mathlib.Core.Path.{◌≡◌, refl, sym, ap, ◌∙◌}
-use mathlib.Core.Bool.{Bool, true, false, not, ◌&&◌}
+use mathlib.Core.Bool.{Bool, true, false, ◌&&◌}
 use mathlib.Core.List.{List, ◌∷◌, ◌++◌, []}
 use Prim.Native.Nat.{ℕ, ◌+◌, ◌*◌, ◌≤◌, ◌<◌}
 use native.Mathlib.Nat.{le_refl}
@@ -13,9 +13,9 @@ use native.Mathlib.Omega.{arith}
 use lib.Dec.{leb, eqb, ltb}
 use lib.ListN.{length, take, drop, get_or, length-take, length-drop}
 use lib.Seq.{get_or-take, get_or-drop}
-use borrow.Author.Tests.{le-leb, lt-leb, eq-eqb, ne_eqb, leb-true, leb-false}
+use borrow.Author.Tests.{le-leb, lt-leb, leb-true, leb-false}
 use Rattle.lists.specs.Lists.{pick, both, either, any, same_numbers}
-use Rattle.lists.proofs.Facts.{both_true, both_on, both_off}
+use Rattle.lists.proofs.Facts.{both_true, both_off}
 use Rattle.lists.proofs.Walks.{same_stop, same_more, same_over}
 use Rattle.format.specs.Parse.{Parse, got, bad, bind, byte_at, be_from, num_at, raw_at}
 use Rattle.format.specs.Fields.{flag_at, ondex_at, siger_at, sigers_at}

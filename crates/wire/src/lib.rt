@@ -41,14 +41,7 @@ fn shaped(s: &[u8], at: usize) -> bool
 }
 
 // A count byte of at most 48, and as many signatures, each whole and of its classes: where they stand, and the place behind the last.
-#[tactic(auto, using(
-    cursor::proofs::Laws::span_short,
-    cursor::proofs::Laws::span_many,
-    cursor::proofs::Laws::span_bad,
-    cursor::proofs::Laws::runs_stop,
-    crate::proofs::Laws::shaped_room,
-    crate::proofs::Laws::place_bad,
-))]
+#[tactic(auto, using(cursor::proofs::Laws::span_short, cursor::proofs::Laws::span_many, cursor::proofs::Laws::span_bad, cursor::proofs::Laws::runs_stop, crate::proofs::Laws::shaped_room, crate::proofs::Laws::place_bad,))]
 pub fn scan(s: &[u8], at: usize) -> Result<(Listing, usize), Refusal>
     ensures { scanned result ≡ sigers_span s.now at }
 {
@@ -139,15 +132,7 @@ fn claim_at(s: &[u8], p: usize) -> Claim
 }
 
 // The places that a list's signatures speak for; none where they are more than 48 or the bytes run out.
-#[tactic(auto, using(
-    crate::proofs::Laws::count_none,
-    crate::proofs::Laws::count_over,
-    crate::proofs::Laws::count_short,
-    crate::proofs::Laws::count_all,
-    crate::proofs::Laws::next_copy,
-    crate::proofs::Laws::firsts_none,
-    crate::proofs::Laws::firsts_kept,
-))]
+#[tactic(auto, using(crate::proofs::Laws::count_none, crate::proofs::Laws::count_over, crate::proofs::Laws::count_short, crate::proofs::Laws::count_all, crate::proofs::Laws::next_copy, crate::proofs::Laws::firsts_none, crate::proofs::Laws::firsts_kept,))]
 pub fn count(s: &[u8], l: Listing, keys: usize, next: usize) -> Counted
     ensures { result ≡ counted_of keys next (sigers_of s.now l.count l.first) }
 {

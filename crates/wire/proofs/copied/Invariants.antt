@@ -1,4 +1,4 @@
-use Rattle.std.specs.Prelude.{◌≡◌, Bool, false}
+use Rattle.std.specs.Prelude.{◌≡◌, false}
 use Rattle.lists.specs.Lists.{any}
 use Rattle.cursor.specs.Spans.{list_of}
 use Rattle.verification.specs.Verification.{same_wire}
