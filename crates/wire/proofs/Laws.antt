@@ -5,7 +5,7 @@
 --     next-..       the sets of places with one signature more
 --     sigers_values   scanning a list and taking the signatures at its places is reading it
 use mathlib.Core.Path.{◌≡◌, refl, sym, ap, ◌∙◌}
-use mathlib.Core.Bool.{Bool, true, false, not, ◌&&◌}
+use mathlib.Core.Bool.{Bool, true, false, ◌&&◌}
 use mathlib.Core.List.{List, ◌∷◌, ◌++◌, []}
 use Prim.Native.Nat.{ℕ, ◌+◌, ◌*◌, ◌≤◌, ◌<◌}
 use native.Mathlib.Nat.{le_refl}
@@ -13,12 +13,13 @@ use native.Mathlib.Omega.{arith}
 use lib.Dec.{leb, eqb, ltb}
 use lib.ListN.{length, take, drop, get_or, length-take, length-drop}
 use lib.Seq.{get_or-take, get_or-drop}
-use borrow.Author.Tests.{le-leb, lt-leb, eq-eqb, ne_eqb, leb-true, leb-false}
+use borrow.Author.Tests.{le-leb, lt-leb, leb-true, leb-false}
 use Rattle.lists.specs.Lists.{pick, both, either, any, same_numbers}
-use Rattle.lists.proofs.Facts.{both_true, both_on, both_off}
+use Rattle.lists.proofs.Facts.{both_true, both_off}
 use Rattle.lists.proofs.Walks.{same_stop, same_more, same_over}
 use Rattle.format.specs.Parse.{Parse, got, bad, bind, byte_at, be_from, num_at, raw_at}
 use Rattle.format.specs.Fields.{flag_at, ondex_at, siger_at, sigers_at}
+use Rattle.cursor.specs.declared.Listing.{Listing}
 use Rattle.cursor.specs.Cursor.{raw_of}
 use Rattle.cursor.specs.Spans.{mapped, list_of}
 use Rattle.cursor.proofs.Laws.{Agree, had, refused, num_got, byte_got, byte-short, raw_got, list-none, list-next, many_over, many_short, many_got, span_values}
@@ -33,35 +34,13 @@ use Rattle.wire.specs.Wire.{word_of, siger_of, sigers_of, firsts_from, shaped_at
 
 -- ---- shape
 module _ (s : List ℕ) (at : ℕ) where
-  abbrev flag : ℕ
-  flag = get_or s (at + 5) 0
-
-  abbrev Fits : Bool → Type 0
-  Fits b = either (eqb flag 1) (eqb (word_of s (at + 6)) 0) ≡ b
-
   pub shaped-short : length s < at + 76 → shaped_at s at ≡ false
   unfolding shaped_at
   shaped-short h = rw (lt-leb _ _ h)
 
-  pub shaped-flag : at + 76 ≤ length s → 1 < flag → shaped_at s at ≡ false
+  pub shaped_room : shaped_at s at ≡ true → at + 76 ≤ length s
   unfolding shaped_at
-  shaped-flag h f = rw (le-leb _ _ h, lt-leb _ _ f)
-
-  pub shaped_ondex : at + 76 ≤ length s → flag ≤ 1 → Fits false → shaped_at s at ≡ false
-  unfolding shaped_at
-  shaped_ondex h f e = rw (le-leb _ _ h, le-leb _ _ f, e)
-
-  pub shaped_verified : at + 76 ≤ length s → flag ≤ 1 → Fits true → 1 < get_or s (at + 74) 0 → shaped_at s at ≡ false
-  unfolding shaped_at
-  shaped_verified h f e v = rw (le-leb _ _ h, le-leb _ _ f, e, lt-leb _ _ v)
-
-  pub shaped_rest : at + 76 ≤ length s → flag ≤ 1 → Fits true → get_or s (at + 74) 0 ≤ 1 → shaped_at s at ≡ leb (get_or s (at + 75) 0) 1
-  unfolding shaped_at
-  shaped_rest h f e v = rw (le-leb _ _ h, le-leb _ _ f, e, le-leb _ _ v)
-
-  pub shaped-room : shaped_at s at ≡ true → at + 76 ≤ length s
-  unfolding shaped_at
-  shaped-room e = leb-true (at + 76) (length s) (both_true (leb (at + 76) (length s)) _ e).0
+  shaped_room e = leb-true (at + 76) (length s) (both_true (leb (at + 76) (length s)) _ e).0
 
   pub place_got : shaped_at s at ≡ true → place_at s at ≡ got at (at + 76)
   unfolding place_at
@@ -89,31 +68,25 @@ module _ (n : ℕ) (s : List ℕ) (p q i : ℕ) (hp : p + n ≤ length s) (hq : 
       let b : i < length (take n (drop q s)) = omega (arith, run_length q hq) in
       same_stop (take n (drop p s)) (take n (drop q s)) i a b (λ e. d (sym (run_at p h) ∙ e ∙ run_at q h))
 
-  pub run_more : i < n → (so : Bool) → both so (left n s p q i) ≡ both (so && eqb (get_or s (p + i) 0) (get_or s (q + i) 0)) (left n s p q (i + 1))
-  run_more h so =
-      let a : i < length (take n (drop p s)) = omega (arith, run_length p hp) in
-      let b : i < length (take n (drop q s)) = omega (arith, run_length q hq) in
-      rw (← run_at p h, ← run_at q h) (same_more (take n (drop p s)) (take n (drop q s)) i a b so)
+  module _ (so : Bool) {x : Bool} (e : x ≡ both so (left n s p q i)) where
+    pub run_more : i < n → x ≡ both (so && eqb (get_or s (p + i) 0) (get_or s (q + i) 0)) (left n s p q (i + 1))
+    run_more h =
+        let a : i < length (take n (drop p s)) = omega (arith, run_length p hp) in
+        let b : i < length (take n (drop q s)) = omega (arith, run_length q hq) in
+        e ∙ rw (← run_at p h, ← run_at q h) (same_more (take n (drop p s)) (take n (drop q s)) i a b so)
 
-  pub run-over : n ≤ i → (so : Bool) → both so (left n s p q i) ≡ so
-  run-over h so =
-      let a : length (take n (drop p s)) ≤ i = omega (arith, run_length p hp) in
-      let b : length (take n (drop q s)) ≤ i = omega (arith, run_length q hq) in
-      same_over (take n (drop p s)) (take n (drop q s)) i so a b
+    pub run_over : n ≤ i → so ≡ x
+    run_over h =
+        let a : length (take n (drop p s)) ≤ i = omega (arith, run_length p hp) in
+        let b : length (take n (drop q s)) ≤ i = omega (arith, run_length q hq) in
+        sym (e ∙ same_over (take n (drop p s)) (take n (drop q s)) i so a b)
 
 pub other_too : (a b : Bool) → b ≡ false → both a b ≡ false
 other_too a b e = rw (e, both_off a)
 
-pub flag_off : (b : Bool) → not b ≡ same_flag false b
-flag_off true = refl
-flag_off false = refl
-
 module _ (s : List ℕ) (p q : ℕ) (hp : p + 76 ≤ length s) (hq : q + 76 ≤ length s) where
   abbrev Raw : Bool → Type 0
   Raw b = same_numbers (take 64 (drop (p + 10) s)) (take 64 (drop (q + 10) s)) ≡ b
-
-  abbrev Flag : Bool → Type 0
-  Flag b = same_flag (eqb (get_or s (p + 5) 0) 1) (eqb (get_or s (q + 5) 0) 1) ≡ b
 
   abbrev wire : Bool
   wire = same_wire (siger_of s p) (siger_of s q)
@@ -139,18 +112,6 @@ module _ (s : List ℕ) (p q : ℕ) (hp : p + 76 ≤ length s) (hq : q + 76 ≤ 
       let b : q + 10 + 0 ≡ q + 10 = omega arith in
       same-raw (run_stop 64 s (p + 10) (q + 10) 0 (omega arith) (omega arith) (omega arith) (rw (a, b) d))
 
-  pub same_code : (get_or s p 0 ≡ get_or s q 0 → ⊥) → wire ≡ false
-  same_code d = wire_is ∙ rw (ne_eqb _ _ d)
-
-  pub same_index : (word_of s (p + 1) ≡ word_of s (q + 1) → ⊥) → wire ≡ false
-  same_index d = wire_is ∙ rw (ne_eqb (word_of s (p + 1)) (word_of s (q + 1)) d, both_off)
-
-  pub same_dual : Flag false → wire ≡ false
-  same_dual e = wire_is ∙ rw (e, both_off (eqb (word_of s (p + 1)) _), both_off)
-
-  pub same_ondex : Raw true → get_or s p 0 ≡ get_or s q 0 → word_of s (p + 1) ≡ word_of s (q + 1) → Flag true → wire ≡ eqb (word_of s (p + 6)) (word_of s (q + 6))
-  same_ondex r c i f = wire_is ∙ rw (r, eq-eqb (get_or s p 0) _ c, eq-eqb (word_of s (p + 1)) _ i, f, both_on)
-
 -- ---- the search for a copy among the first ones of i
 module _ (s : List ℕ) (at : ℕ) where
   abbrev siger : ℕ → Siger
@@ -162,8 +123,8 @@ module _ (s : List ℕ) (at : ℕ) where
   one_further : (n p : ℕ) → p < n → sigers (p + 1) ≡ sigers p ++ (siger p ∷ [])
   one_further n p h = list-next (siger_of s) 76 p at
 
-  pub firsts-none : firsts_from s at 0 ≡ 0
-  firsts-none = none_yet_lem same_wire siger sigers
+  pub firsts_none : firsts_from s at 0 ≡ 0
+  firsts_none = none_yet_lem same_wire siger sigers
 
   -- before the first position there is none
   pub none_before : (x : Siger) → any (same_wire x) (sigers 0) ≡ false
@@ -171,47 +132,35 @@ module _ (s : List ℕ) (at : ℕ) where
   none_before x = refl
 
   module _ (i set : ℕ) (e : set ≡ firsts_from s at i) where
-    pub firsts-kept : any (same_wire (siger i)) (sigers i) ≡ true → set ≡ firsts_from s at (i + 1)
-    firsts-kept f = e ∙ first-kept same_wire siger sigers i f
+    pub firsts_kept : any (same_wire (siger i)) (sigers i) ≡ true → set ≡ firsts_from s at (i + 1)
+    firsts_kept f = e ∙ first-kept same_wire siger sigers i f
 
-    pub firsts-with : i < 64 → any (same_wire (siger i)) (sigers i) ≡ false → with_first set i ≡ firsts_from s at (i + 1)
-    firsts-with h f = rw e (first_more same_wire siger sigers i h f)
+    pub firsts_with : i < 64 → any (same_wire (siger i)) (sigers i) ≡ false → with_first set i ≡ firsts_from s at (i + 1)
+    firsts_with h f = rw e (first_more same_wire siger sigers i h f)
 
-    module _ (x : Siger) (j q : ℕ) (h : j < i) (k : q ≡ at + j * 76) where
-      pub list_copy : both (has_first set j) (same_wire x (siger_of s q)) ≡ true → any (same_wire x) (sigers i) ≡ true
-      list_copy f = is_copy same_wire siger sigers wire_trans i (one_further i) x i j h (le_refl i) (rw (e, k) at f)
+    module _ (x : Siger) (j : ℕ) (h : j < i) where
+      pub list_copy : both (has_first set j) (same_wire x (siger j)) ≡ true → any (same_wire x) (sigers i) ≡ true
+      list_copy f = is_copy same_wire siger sigers wire_trans i (one_further i) x i j h (le_refl i) (rw e at f)
 
-      pub list_other : i ≤ 64 → any (same_wire x) (sigers j) ≡ false → both (has_first set j) (same_wire x (siger_of s q)) ≡ false → any (same_wire x) (sigers (j + 1)) ≡ false
-      list_other w d f = no_copy same_wire siger sigers wire_trans i (one_further i) x i j h (le_refl i) w d (rw (e, k) at f)
+      pub list_other : {b : Bool} → i ≤ 48 → any (same_wire x) (sigers j) ≡ false → b ≡ both (has_first set j) (same_wire x (siger j)) → b ≡ false
+          → any (same_wire x) (sigers (j + 1)) ≡ false
+      list_other w d f g = no_copy same_wire siger sigers wire_trans i (one_further i) x i j h (le_refl i) (omega arith) d (rw e at (sym f ∙ g))
 
 -- ---- the sets of places
-pub claim_is : (s : List ℕ) (p : ℕ) {i o : ℕ} → i ≡ word_of s (p + 1) → o ≡ word_of s (p + 6)
-    → ◌≡◌ {A = Claim}
-    (record {
-      index = record { 0 = i };
-      dual = eqb (get_or s (p + 5) 0) 1;
-      ondex = record { 0 = o };
-      verified = eqb (get_or s (p + 74) 0) 1;
-      matches = eqb (get_or s (p + 75) 0) 1;
-    })
-    (claim_of (siger_of s p))
-unfolding siger_of
-claim_is s p e f = rw (e, f)
-
 module _ (keys next : ℕ) (s : List ℕ) (at : ℕ) where
   abbrev counted : ℕ → Counted
   counted i = counted_of keys next (list_of (siger_of s) 76 i at)
 
-  module _ (i p : ℕ) (c : Counted) (h : p ≡ at + i * 76) (e : c ≡ counted i) where
+  module _ (i : ℕ) (c : Counted) (e : c ≡ counted i) where
     abbrev copied : Bool
-    copied = any (same_wire (siger_of s p)) (list_of (siger_of s) 76 i at)
+    copied = any (same_wire (siger_of s (at + i * 76))) (list_of (siger_of s) 76 i at)
 
-    pub next-copy : copied ≡ true → c ≡ counted (i + 1)
-    next-copy f = rw (list-next (siger_of s) 76 i at, ← h) (e ∙ counted-copy keys next (list_of (siger_of s) 76 i at) (siger_of s p) f)
+    pub next_copy : copied ≡ true → c ≡ counted (i + 1)
+    next_copy f = rw (list-next (siger_of s) 76 i at) (e ∙ counted-copy keys next (list_of (siger_of s) 76 i at) (siger_of s (at + i * 76)) f)
 
-    pub next_more : copied ≡ false → counted_with keys next c (claimed (claim_of (siger_of s p))) ≡ counted (i + 1)
+    pub next_more : (m : Claim) (r : Counted) → m ≡ claim_of (siger_of s (at + i * 76)) → r ≡ counted_with keys next c (claimed m) → copied ≡ false → r ≡ counted (i + 1)
     unfolding counted_with exposed_with
-    next_more f = rw (list-next (siger_of s) 76 i at, ← h, e) (counted_more keys next (list_of (siger_of s) 76 i at) (siger_of s p) f)
+    next_more m r g d f = d ∙ rw (list-next (siger_of s) 76 i at, g, e) (counted_more keys next (list_of (siger_of s) 76 i at) (siger_of s (at + i * 76)) f)
 
   abbrev zero-set : Counted
   zero-set = record { verified = 0; exposed = 0 }
@@ -220,14 +169,14 @@ module _ (keys next : ℕ) (s : List ℕ) (at : ℕ) where
   count_none = rw (list-none (siger_of s) 76 at) (sym (counted_none keys next))
 
   module _ (n : ℕ) where
-    pub count-over : 48 < n → zero-set ≡ counted_of keys next (sigers_of s n at)
-    count-over h = rw (many_over (siger_of s) 76 48 s n at h) (sym (counted_none keys next))
+    pub count_over : 48 < n → zero-set ≡ counted_of keys next (sigers_of s n at)
+    count_over h = rw (many_over (siger_of s) 76 48 s n at h) (sym (counted_none keys next))
 
-    pub count-short : n ≤ 48 → length s < at + n * 76 → zero-set ≡ counted_of keys next (sigers_of s n at)
-    count-short h k = rw (many_short (siger_of s) 76 48 s n at h k) (sym (counted_none keys next))
+    pub count_short : n ≤ 48 → length s < at + n * 76 → zero-set ≡ counted_of keys next (sigers_of s n at)
+    count_short h k = rw (many_short (siger_of s) 76 48 s n at h k) (sym (counted_none keys next))
 
-    pub count-all : (i : ℕ) (c : Counted) → n ≤ 48 → at + n * 76 ≤ length s → i ≡ n → c ≡ counted i → c ≡ counted_of keys next (sigers_of s n at)
-    count-all i c h k d e = rw (many_got (siger_of s) 76 48 s n at h k, ← d) e
+    pub count_all : (i : ℕ) (c : Counted) → n ≤ 48 → at + n * 76 ≤ length s → i ≡ n → c ≡ counted i → c ≡ counted_of keys next (sigers_of s n at)
+    count_all i c h k d e = rw (many_got (siger_of s) 76 48 s n at h k, ← d) e
 
 -- ---- by values: each field in turn, had with its value and the place behind it
 module _ (s : List ℕ) where
@@ -344,13 +293,13 @@ module _ (s : List ℕ) where
           let h = leb-false (at + 76) (length s) e in
           refused 3 (place_bad s at (shaped-short s at h)) (siger-short at h)
 
-  packs : {A B : Type 0} (f : A → B) (x : Parse (ℕ × ℕ)) (v : ℕ × ℕ → A) → mapped (λ (m : ℕ × ℕ). f (v m)) x ≡ bind (mapped v x) (λ a q. got (f a) q)
+  packs : {A B : Type 0} (f : A → B) (x : Parse Listing) (v : Listing → A) → mapped (λ (m : Listing). f (v m)) x ≡ bind (mapped v x) (λ a q. got (f a) q)
   packs f (got m q) v = refl
   packs f (bad r) v = refl
 
   -- the signatures at the places that a scan gave are those of the record
-  pub sigers_values : (at : ℕ) → mapped (λ (m : ℕ × ℕ). packed_sigers (sigers_of s m.0 m.1)) (sigers_span s at) ≡ sigers_at s at
+  pub sigers_values : (at : ℕ) → mapped (λ (m : Listing). packed_sigers (sigers_of s m.count m.first)) (sigers_span s at) ≡ sigers_at s at
   unfolding sigers_at
   sigers_values at =
-      packs packed_sigers (sigers_span s at) (λ (m : ℕ × ℕ). sigers_of s m.0 m.1)
+      packs packed_sigers (sigers_span s at) (λ (m : Listing). sigers_of s m.count m.first)
       ∙ ap (λ (x : Parse (List Siger)). bind x (λ xs q. got (packed_sigers xs) q)) (span_values (place_at s) (siger_at s) (siger_of s) 76 48 s siger_values at)

@@ -3,11 +3,11 @@ use Rattle.std.specs.Prelude.{ℕ, ◌+◌, ◌*◌, List, Bool, leb, eqb, lengt
 use Rattle.lists.specs.Lists.{pick, both, either}
 use Rattle.format.specs.Parse.{Parse, got, bad, num_at}
 use Rattle.cursor.specs.Cursor.{raw_of}
+use Rattle.cursor.specs.declared.Listing.{Listing}
 use Rattle.cursor.specs.Spans.{span_at, list_of, many_of}
 use Rattle.firsts.specs.Firsts.{first_ones}
 use Rattle.verification.specs.declared.Siger.{Siger}
 use Rattle.verification.specs.Verification.{same_wire}
-use Rattle.wire.specs.declared.Span as S
 
 -- the u32 at a place, 0 where the bytes run out
 abbrev pub valued : Parse ℕ → ℕ
@@ -50,10 +50,5 @@ shaped_at s at =
 unfoldable pub place_at : List ℕ → ℕ → Parse ℕ
 place_at s at = pick (shaped_at s at) (got at (at + 76)) (bad 3)
 
-abbrev pub sigers_span : List ℕ → ℕ → Parse (ℕ × ℕ)
+abbrev pub sigers_span : List ℕ → ℕ → Parse Listing
 sigers_span s at = span_at (place_at s) 48 s at
-
--- how many, the first one's place, and the place behind the last; or the refusal
-abbrev pub span_is : S.Span → Parse (ℕ × ℕ)
-span_is (S.TheVariants.Of n first next) = got (n, first) next
-span_is (S.TheVariants.No r) = bad r

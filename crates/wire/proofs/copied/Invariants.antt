@@ -1,6 +1,4 @@
-use mathlib.Core.Path.{◌≡◌}
-use mathlib.Core.Bool.{false}
-use Prim.Native.Nat.{◌+◌, ◌*◌, ◌≤◌, ◌-◌}
+use Rattle.std.specs.Prelude.{◌≡◌, false}
 use Rattle.lists.specs.Lists.{any}
 use Rattle.cursor.specs.Spans.{list_of}
 use Rattle.verification.specs.Verification.{same_wire}
@@ -8,7 +6,4 @@ use Rattle.wire.specs.Wire.{siger_of}
 use Rattle.wire.proofs.copied.Given as goal
 
 abbrev pub invariant-loop-j : goal.invariant-loop-j
-invariant-loop-j l = (l.j ≤ l.i) × (l.q ≡ l.at + l.j * 76) × (any (same_wire (siger_of l.s l.p)) (list_of (siger_of l.s) 76 l.j l.at) ≡ false)
-
-abbrev pub decreases-loop-j : goal.decreases-loop-j
-decreases-loop-j l = l.i - l.j
+invariant-loop-j l = any (same_wire (siger_of l.s l.p)) (list_of (siger_of l.s) 76 l.j l.at) ≡ false

@@ -1,14 +1,11 @@
-use mathlib.Core.Path.{sym, ◌∙◌}
-use Prim.Native.Nat.{◌-◌}
 use native.Mathlib.Omega.{arith}
-use Rattle.wire.proofs.Laws.{run_more, run-over}
-use borrow.Author.Rules.{rules}
+use Rattle.wire.proofs.Laws.{run_more, run_over}
 use Rattle.wire.proofs.same_raw.Goals as goal
 
 pub loop-i-preserved : goal.loop-i-preserved
 loop-i-preserved c = let a = c.args in
-    (search rules, c.loop-i.invariant.1 ∙ run_more 64 a.s.now a.p a.q c.loop-i.i (omega arith) (omega arith) (omega arith) c.loop-i.same)
+    run_more 64 a.s.now a.p a.q c.loop-i.i (omega arith) (omega arith) c.loop-i.same c.loop-i.invariant c.loop-i-test.true
 
 pub returns : goal.returns
 returns c = let a = c.args in
-    sym (c.loop-i.invariant.1 ∙ run-over 64 a.s.now a.p a.q c.loop-i.i (omega arith) (omega arith) (omega arith) c.loop-i.same)
+    run_over 64 a.s.now a.p a.q c.loop-i.i (omega arith) (omega arith) c.loop-i.same c.loop-i.invariant c.loop-i-test.false
