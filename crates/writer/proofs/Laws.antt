@@ -15,7 +15,7 @@ use borrow.Author.Tests.{le-leb}
 use Rattle.std.proofs.lemmas.List.{drop-set}
 use Rattle.writer.specs.Writing.{be, over, Room, Wrote, put}
 
-over_none : (at : ℕ) (b : List ℕ) → over at [] b ≡ b
+pub over_none : (at : ℕ) (b : List ℕ) → over at [] b ≡ b
 unfolding over
 over_none at b = rw (add-zero, take-append-drop)
 
@@ -40,15 +40,15 @@ unfolding over
 over_seam l d ys k e = rw (← e, take-append_seam, drop-append-add)
 
 -- one piece behind another
-over_over : (at : ℕ) (xs ys b : List ℕ) → at + length xs ≤ length b
-    → over (at + length xs) ys (over at xs b) ≡ over at (xs ++ ys) b
+pub over_append : (at : ℕ) (xs ys b : List ℕ) → at + length xs ≤ length b
+    → over at (xs ++ ys) b ≡ over (at + length xs) ys (over at xs b)
 unfolding over
-over_over at xs ys b h =
+over_append at xs ys b h =
     let p : length (take at b ++ xs) ≡ at + length xs =
     rw length-append (ap (λ (n : ℕ). n + length xs) (length-take-le at b (omega arith))) in
-    rw (← append_assoc (take at b) xs (drop (at + length xs) b))
+    sym (rw (← append_assoc (take at b) xs (drop (at + length xs) b))
     (over_seam (take at b ++ xs) (drop (at + length xs) b) ys (at + length xs) p
-    ∙ simp (drop-drop, append_assoc, length-append, add_assoc))
+    ∙ simp (drop-drop, append_assoc, length-append, add_assoc)))
 
 pub same_bytes : {xs ys b b' : List ℕ} {at q : ℕ} → xs ≡ ys → Wrote xs at b q b' → Wrote ys at b q b'
 same_bytes e w = rw e at w
@@ -92,7 +92,7 @@ module _ {all b₀ b : List ℕ} {at p : ℕ} where
       let r = l.room in
       let d = l.end in
       record {
-        is = l.is ∙ sym (over_over p xs rest b h) ∙ rw (e, f);
+        is = l.is ∙ over_append p xs rest b h ∙ rw (e, f);
         end = omega arith;
         room = omega arith;
       }
