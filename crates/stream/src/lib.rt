@@ -135,7 +135,7 @@ fn size_at(window: &[u8], at: usize) -> usize
     requires { at + 4 ≤ length window.now }
     ensures { result ≡ size_of (drop at window.now) }
 {
-    4 + (window[at + 2] as usize * 256 + window[at + 3] as usize)
+    4 + usize::from(u16::from_be_bytes([window[at + 2], window[at + 3]]))
 }
 
 // A record that the window cannot hold: the window is filled, the rest of the record stepped over.
