@@ -1,24 +1,25 @@
 -- Digits and lines, for the loops that write them. Assumes nothing.
---     numeral-..   how long a numeral is, and what a loop that counts its digits knows
---     detail-..    a number of two words, word by word
---     ..-few       no line is longer than `longest`
---     here, nothing   a line where there is room, and where there is none
-use mathlib.Core.Path.{◌≡◌, refl, ap}
+--     numeral_..   how long a numeral is, and what a loop that counts its digits knows
+--     detail_..    a number of two words, word by word
+--     .._few       no line is longer than `longest`
+--     digits_..    a loop that writes digits from the last one
+--     end_..       the last line's first word, and what stands behind it
+use mathlib.Core.Path.{◌≡◌, refl, sym, ap}
 use mathlib.Core.List.{List, ◌∷◌, ◌++◌, append_assoc, append-nil, []}
 use mathlib.Core.Bool.{Bool, true, false}
 use Prim.Native.Nat.{ℕ, zero, suc, ◌+◌, ◌-◌, ◌*◌, ◌/◌, ◌%◌, ◌^◌, ◌≤◌, ◌<◌}
 use native.Mathlib.Nat.{add-zero, add-suc, mul_assoc, mul-one, one-mul, one-le-mul, one-le-pow, zero-mul, zero-add, pow-zero, pow-suc, mod-eq_of_lt, div-lt_iff_lt-mul, mul-add-div_right, mul-add-mod_self_right, mul-le-mul_right}
 use native.Mathlib.Omega.{arith}
-use lib.Dec.{ltb, leb}
-use lib.ListN.{length, length-append}
+use lib.Dec.{ltb}
+use lib.ListN.{length, set, length-append}
 use borrow.Author.Tests.{lt-ltb, le-ltb, ltb-true, ltb-false}
 use Rattle.lists.specs.Lists.{pick}
 use Rattle.number.specs.declared.Number.{Number}
 use Rattle.number.specs.Number.{value}
 use Rattle.answer.specs.declared.Answer.{Answer}
-use Rattle.writer.specs.Writing.{Wrote}
-use Rattle.writer.proofs.Laws.{Digits, digits-length}
-use Rattle.lines.specs.Lines.{glyph, digits, numeral, decimal, detail, decimal_then, detail_then, hides_mark, mark_then, reached_then, space, feed, line, end_line, longest, written}
+use Rattle.writer.specs.Writing.{over}
+use Rattle.writer.proofs.Laws.{Digits, digits_length, digits_less, over_none, over_append}
+use Rattle.lines.specs.Lines.{glyph, digits, numeral, decimal, detail, decimal_then, detail_then, hides_mark, mark_then, reached_then, space, feed, line, end_line, longest}
 
 -- ---- Digits
 -- as the writer's laws take them
@@ -27,7 +28,7 @@ unfolding digits
 digits_made b = record { none = λ n. refl; next = λ w n. refl }
 
 pub length_digits : (b w n : ℕ) → length (digits b w n) ≡ w
-length_digits b = digits-length (digits_made b)
+length_digits b = digits_length (digits_made b)
 
 one_digit : (b w n : ℕ) → n < b → numeral b (suc w) n ≡ glyph n ∷ []
 unfolding numeral
@@ -55,10 +56,10 @@ by_size P n b short long = go (ltb n b) refl
     go false e = long (ltb-false n b e)
 
 -- a numeral is its last digits
-pub numeral-digits : (b w n : ℕ) → numeral b w n ≡ digits b (length (numeral b w n)) n
+pub numeral_digits : (b w n : ℕ) → numeral b w n ≡ digits b (length (numeral b w n)) n
 unfolding digits numeral
-numeral-digits b zero n = refl
-numeral-digits b (suc w) n = by_size _ n b short (long (numeral-digits b w (n / b)))
+numeral_digits b zero n = refl
+numeral_digits b (suc w) n = by_size _ n b short (long (numeral_digits b w (n / b)))
   where
     short : n < b → numeral b (suc w) n ≡ digits b (length (numeral b (suc w) n)) n
     short h = rw (one_digit b w n h, mod-eq_of_lt h)
@@ -75,16 +76,16 @@ numeral_last b w k n rest h l e =
     let g : length (numeral b (w - k) rest) ≡ 1 = rw (f, one_digit b (w - k - 1) rest l) in
     omega (arith, e, g)
 
-pub numeral-next : (b w k n rest : ℕ) → k < w → b ≤ rest → length (numeral b w n) ≡ k + length (numeral b (w - k) rest)
+pub numeral_next : (b w k n rest : ℕ) → k < w → b ≤ rest → length (numeral b w n) ≡ k + length (numeral b (w - k) rest)
     → length (numeral b w n) ≡ k + 1 + length (numeral b (w - (k + 1)) (rest / b))
-numeral-next b w k n rest h l e =
+numeral_next b w k n rest h l e =
     let f : w - k ≡ suc (w - (k + 1)) = omega arith in
     let g : length (numeral b (w - k) rest) ≡ length (numeral b (w - (k + 1)) (rest / b)) + 1 = rw (f, more_digits b (w - (k + 1)) rest l, length-append) in
     omega (arith, e, g)
 
-pub numeral-end : (b w k n rest : ℕ) → w ≤ k → length (numeral b w n) ≡ k + length (numeral b (w - k) rest) → k ≡ length (numeral b w n)
+pub numeral_end : (b w k n rest : ℕ) → w ≤ k → length (numeral b w n) ≡ k + length (numeral b (w - k) rest) → k ≡ length (numeral b w n)
 unfolding numeral
-numeral-end b w k n rest h e =
+numeral_end b w k n rest h e =
     let f : w - k ≡ 0 = omega arith in
     let g : length (numeral b (w - k) rest) ≡ 0 = rw f in
     omega (arith, e, g)
@@ -122,31 +123,13 @@ split b w (suc j) high low p z l =
     let q : low / b < b ^ j = (div-lt_iff_lt-mul o).1 (rw pow-suc at l) in
     rw (e, add-suc, more_digits b (w + j) (high * b ^ j * b + low) big, mul-add-div_right o (high * b ^ j) low, mul-add-mod_self_right (high * b ^ j) b low, split b w j high (low / b) p z q, append_assoc)
 
-pub detail-short : (x : Number) → x.high ≡ 0 → x.low < 2 ^ 64 → detail x ≡ numeral 16 16 x.low
+pub detail_short : (x : Number) → x.high ≡ 0 → x.low < 2 ^ 64 → detail x ≡ numeral 16 16 x.low
 unfolding detail
-detail-short x z l = rw (z, zero-mul, zero-add) (spare 16 16 15 x.low (omega arith) l)
+detail_short x z l = rw (z, zero-mul, zero-add) (spare 16 16 15 x.low (omega arith) l)
 
-pub detail-long : (x : Number) → 0 < x.high → x.low < 2 ^ 64 → detail x ≡ numeral 16 16 x.high ++ digits 16 16 x.low
+pub detail_long : (x : Number) → 0 < x.high → x.low < 2 ^ 64 → detail x ≡ numeral 16 16 x.high ++ digits 16 16 x.low
 unfolding detail
-detail-long x z l = split 16 16 16 x.high x.low (omega arith) z l
-
--- ---- Marks
-pub hidden : (behind number mark : ℕ) → hides_mark number ≡ true → mark_then behind number mark ≡ 0x3F ∷ 0x3F ∷ behind ∷ []
-unfolding mark_then
-hidden behind number mark h = rw h
-
-pub shown : (behind number mark : ℕ) → hides_mark number ≡ false → mark_then behind number mark ≡ mark / 256 ∷ mark % 256 ∷ behind ∷ []
-unfolding mark_then
-shown behind number mark h = rw h
-
--- ---- How far the holder is
-pub reached_held : (behind : ℕ) (held : Bool) (sn : Number) → held ≡ true → reached_then behind held sn ≡ detail_then behind sn
-unfolding reached_then
-reached_held behind held sn e = rw e
-
-pub reached_empty : (behind : ℕ) (held : Bool) (sn : Number) → held ≡ false → reached_then behind held sn ≡ 0x2D ∷ behind ∷ []
-unfolding reached_then
-reached_empty behind held sn e = rw e
+detail_long x z l = split 16 16 16 x.high x.low (omega arith) z l
 
 -- ---- How long a line is
 then_few : (xs : List ℕ) (most behind : ℕ) → length xs ≤ most → length (xs ++ (behind ∷ [])) ≤ most + 1
@@ -194,15 +177,23 @@ end_few accepted offered held sn =
     let r = reached_few feed held sn in
     simp length-append (omega arith)
 
--- ---- A line where there is room, and where there is none
-pub fits : (xs : List ℕ) (at : ℕ) (b : List ℕ) → length xs ≤ longest → at + longest ≤ length b → at + length xs ≤ length b
-fits xs at b h k = omega arith
+-- ---- As a loop writes digits from the last one
+pub digits_last : (at base i x : ℕ) (b : List ℕ) → 0 < i → at + i ≤ length b → over at (digits base (i - 1) (x / base)) (set b (at + (i - 1)) (glyph (x % base))) ≡ over at (digits base i x) b
+digits_last at base i x b h k = sym (digits_less (digits_made base) (over at (digits base i x) b) at b i x h k refl)
 
-pub here : (xs : List ℕ) (at : ℕ) (b b' : List ℕ) (q : ℕ) → leb (at + longest) (length b) ≡ true → Wrote xs at b q b'
-    → (q ≡ (written xs at b).0) × (b' ≡ (written xs at b).1)
-unfolding written
-here xs at b b' q t w = rw t (w.behind, w.bytes)
+pub digits_none : (at base i x : ℕ) (b : List ℕ) → i ≤ 0 → over at (digits base i x) b ≡ b
+digits_none at base i x b h =
+    let z : i ≡ 0 = omega arith in
+    rw (z, (digits_made base).none x) (over_none at b)
 
-pub nothing : (xs : List ℕ) (at : ℕ) (b : List ℕ) → leb (at + longest) (length b) ≡ false → (at ≡ (written xs at b).0) × (b ≡ (written xs at b).1)
-unfolding written
-nothing xs at b t = rw t (refl, refl)
+-- ---- The last line's first word, and what stands behind it
+pub end_length : (accepted offered : ℕ) (held : Bool) (sn : Number) → length (end_line accepted offered held sn)
+    ≡ 4 + (length (decimal_then space accepted) + (length (decimal_then space offered) + length (reached_then feed held sn)))
+unfolding end_line
+end_length accepted offered held sn = simp length-append (omega arith)
+
+pub end_over : (at accepted offered : ℕ) (held : Bool) (sn : Number) (b : List ℕ) → at + length (end_line accepted offered held sn) ≤ length b
+    → over at (end_line accepted offered held sn) b
+    ≡ over (at + 4) (decimal_then space accepted ++ (decimal_then space offered ++ reached_then feed held sn)) (over at (0x65 ∷ 0x6E ∷ 0x64 ∷ space ∷ []) b)
+unfolding end_line
+end_over at accepted offered held sn b h = over_append at (0x65 ∷ 0x6E ∷ 0x64 ∷ space ∷ []) _ b (omega arith)

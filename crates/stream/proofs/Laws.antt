@@ -1,9 +1,11 @@
 -- A window of bytes: a move to its start, and what stands in it after more was read. Assumes nothing.
 --     taken_less, part_same, same_size     parts of two windows that begin alike
---     slide-..                             a loop that moves bytes to the start: i are moved
+--     slid                                 what was moved to the start
 --     short_stands, long_stands            a record in the window
-use Rattle.std.proofs.Common.{◌≡◌, sym, ap, ◌∙◌, List, ℕ, ◌+◌, ◌-◌, ◌≤◌, ◌<◌, add-zero, add-one, arith, length, take, drop, get_or, set, length-drop, length-take, take-add, drop_at, length-take-le, take-take, take-suc, take-suc-set, drop-set-lt, drop-drop, get_or-drop, get_or-take, le-leb}
+use Rattle.std.proofs.Common.{◌≡◌, sym, ap, ◌∙◌, List, ℕ, ◌+◌, ◌-◌, ◌≤◌, ◌<◌, arith, length, take, drop, get_or, length-drop, length-take, take-add, drop_at, length-take-le, take-take, get_or-take, le-leb}
 use borrow.Author.Tests.{lt-leb}
+use lib.Seq.{paste}
+use Rattle.std.proofs.lemmas.List.{take_at}
 use Rattle.stream.specs.declared.Span.{Span}
 use Rattle.stream.specs.Window.{size_of, Longer, Stands}
 
@@ -13,27 +15,9 @@ taken_less w v have to h e = sym (take-take have to w h) ∙ ap (take have) e �
 pub part_length : (xs : List ℕ) (a e : ℕ) → a ≤ e → e ≤ length xs → length (take (e - a) (drop a xs)) ≡ e - a
 part_length xs a e h k = simp (length-take, length-drop) (omega arith)
 
--- ---- As a loop moves bytes to the start
-module _ (w₀ w : List ℕ) (from i : ℕ) (h : from + i < length w) (same : length w ≡ length w₀) (moved : take i w ≡ take i (drop from w₀)) (left : drop (from + i) w ≡ drop (from + i) w₀) where
-  byte : get_or w (from + i) 0 ≡ get_or (drop from w₀) i 0
-  byte =
-      let e : get_or (drop (from + i) w) 0 0 ≡ get_or (drop (from + i) w₀) 0 0 = ap (λ (xs : List ℕ). get_or xs 0 0) left in
-      let p : get_or w (from + i + 0) 0 ≡ get_or w₀ (from + i + 0) 0 = rw (get_or-drop (from + i) w 0 0, get_or-drop (from + i) w₀ 0 0) at e in
-      let q : get_or w (from + i) 0 ≡ get_or w₀ (from + i) 0 = rw (add-zero (from + i)) at p in
-      q ∙ sym (get_or-drop from w₀ i 0)
-
-  pub slide_moved : take (i + 1) (set w i (get_or w (from + i) 0)) ≡ take (i + 1) (drop from w₀)
-  slide_moved =
-      let k : i < length w = omega arith in
-      let j : i < length (drop from w₀) = simp length-drop (omega arith) in
-      rw (add-one i, take-suc-set w i (get_or w (from + i) 0) k, take-suc (drop from w₀) i 0 j, byte, moved)
-
-  pub slide-left : drop (from + (i + 1)) (set w i (get_or w (from + i) 0)) ≡ drop (from + (i + 1)) w₀
-  slide-left =
-      let k : i < from + (i + 1) = omega arith in
-      let s : from + (i + 1) ≡ from + i + 1 = omega arith in
-      drop-set-lt (from + (i + 1)) w i (get_or w (from + i) 0) k
-      ∙ (rw (s, ← drop-drop 1 (from + i) w, ← drop-drop 1 (from + i) w₀) (ap (drop 1) left))
+-- what `copy_within` moved to the start
+pub slid : (w v : List ℕ) (from to : ℕ) → from ≤ to → to ≤ length w → v ≡ paste w 0 (drop from w) (to - from) → take (to - from) v ≡ take (to - from) (drop from w)
+slid w v from to h k e = rw e (take_at (take (to - from) (drop from w)) (drop (0 + (to - from)) w) (to - from) (length-take-le (to - from) (drop from w) (simp length-drop (omega arith))))
 
 -- ---- A record in the window
 drop-taken : (xs : List ℕ) (a k : ℕ) → a ≤ length xs → drop a (take (a + k) xs) ≡ take k (drop a xs)

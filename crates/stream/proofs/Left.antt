@@ -1,22 +1,18 @@
 -- The bytes that reads bring, and the records that they make. Assumes nothing.
---     filled_more, fill_stopped     as a loop reads on behind what it has
---     skipped_more, skip_ended      as a loop reads and forgets
+--     filled_more                   as a loop reads on behind what it has
+--     skipped_more                  as a loop reads and forgets
 --     hold_left                     what was left of the input is left
---     short_gives, long_gives, ..   the record that what is left begins with, or that it is less than a record
+--     short_gives, long_gives       the record that what is left begins with
 --     wrote_more                    as a loop writes on behind what it wrote
-use Rattle.std.proofs.Common.{◌≡◌, refl, sym, ap, ◌∙◌, subst, List, ◌++◌, ℕ, ◌+◌, ◌-◌, ◌≤◌, ◌<◌, arith, append_assoc, length, take, drop, length-append, length-drop, length-take-le, take-add, take-take, drop-drop, drop_at, Option, Some, None, IfSome, []}
+use Rattle.std.proofs.Common.{◌≡◌, sym, ap, ◌∙◌, subst, List, ◌++◌, ℕ, ◌+◌, ◌-◌, ◌≤◌, ◌<◌, arith, append_assoc, length, take, drop, length-append, length-drop, length-take-le, take-add, take-take, drop-drop, drop_at, Option, Some, None, IfSome, []}
 use lib.Seq.{take-append-le, drop-append-le}
 use Rattle.std.proofs.lemmas.List.{drop-take}
 use Rattle.std.specs.Io.KnownBytes.{prepend_known, Keeps, Consumes, Appends}
 use Rattle.std.proofs.KnownBytes.{Consumes-trans, Consumes-kept, Appends-trans}
 use Rattle.stream.specs.declared.Span.{Span}
 use Rattle.stream.specs.declared.Place.{Place}
-use Rattle.stream.specs.declared.Input.{Input}
-use Rattle.stream.specs.declared.Input.TheVariants as I
-use Rattle.stream.specs.declared.Next.{Next}
-use Rattle.stream.specs.declared.Next.TheVariants as N
 use Rattle.stream.specs.Window.{size_of}
-use Rattle.stream.specs.Left.{unused, left_of, stopped_at, unfinished_as, Brought, Filled, Skipped, Begins, Gives}
+use Rattle.stream.specs.Left.{unused, left_of, Begins}
 use Rattle.stream.proofs.Laws.{part_same, same_size}
 
 -- ---- As a loop reads on
@@ -44,22 +40,13 @@ module _ (p q r : Option (List ℕ)) (w v : List ℕ) (have to : ℕ) (h : have 
   pub filled_more : (n : ℕ) → to ≤ n → Consumes q r (take (n - to) (drop to v)) → Consumes p r (take (n - have) (drop have v))
   filled_more n l more = subst (Consumes p r) (parts_joined v have to n h l) (Consumes-trans p q r _ _ now more)
 
-  pub fill_stopped : (want end : ℕ) (x s : Input) → end ≡ length w → to < want → Brought q r to end v x → ((n : ℕ) → x ≡ I.To n → ⊥) → s ≡ stopped_at to x → Filled p r have want v s
-  fill_stopped want end (I.To n) s m l b other is = absurd (other n refl)
-  fill_stopped want end I.Ended s m l b other is =
-      let f : Filled p r have want v (I.To to) = (Consumes-kept p q r _ now b.0, λ i j. b.1 (omega arith)) in
-      subst (Filled p r have want v) (sym is) f
-  fill_stopped want end (I.Failed x) s m l b other is = subst (Filled p r have want v) (sym is) tt
+  pub filled_end : Keeps q r → Consumes p r (take (to - have) (drop have v))
+  filled_end = Consumes-kept p q r _ now
 
 -- ---- As a loop reads and forgets
 module _ (p q r : Option (List ℕ)) (bs : List ℕ) (left count : ℕ) (brought : Consumes p q bs) (e : length bs + left ≡ count) where
   pub skipped_more : (xs : List ℕ) (n : ℕ) → length xs ≡ n → n ≤ left → Consumes q r xs → (ys : List ℕ) × Consumes p r ys × (length ys + (left - n) ≡ count)
   skipped_more xs n l k more = (bs ++ xs, Consumes-trans p q r bs xs brought more, simp length-append (omega arith))
-
-  pub skip_ended : (from most end : ℕ) (v : List ℕ) (x : Input) → 0 < left → (from < most → from < end) → Brought q r from end v x → ((n : ℕ) → x ≡ I.To n → ⊥) → Skipped p r from most count x
-  skip_ended from most end v (I.To n) k l b other = absurd (other n refl)
-  skip_ended from most end v I.Ended k l b other = (bs, Consumes-kept p q r bs brought b.0, omega arith, λ i. b.1 (l i))
-  skip_ended from most end v (I.Failed x) k l b other = tt
 
 -- ---- What is left
 kept_before : (a b : Option (List ℕ)) (us bs : List ℕ) → Consumes a b bs → Keeps (prepend_known us a) (prepend_known (us ++ bs) b)
@@ -103,7 +90,7 @@ module _ (w ys : List ℕ) (s : Span) (ordered : s.from ≤ s.to) (within : s.to
       sym (drop-append-le k (unused w s) ys l ∙ ap (λ (xs : List ℕ). xs ++ ys) d)
 
 pub short_gives : (known left : Option (List ℕ)) (w : List ℕ) (s : Span) (size : ℕ) → s.from ≤ s.to → s.to ≤ length w → 4 ≤ s.to - s.from → size ≡ size_of (drop s.from w)
-    → size ≤ s.to - s.from → Keeps known (left_of w s left) → IfSome known (λ xs. Gives xs w left (N.Record (record { from = s.from; to = s.from + size; end = s.to })))
+    → size ≤ s.to - s.from → Keeps known (left_of w s left) → IfSome known (λ xs. Begins xs w left (record { from = s.from; to = s.from + size; end = s.to }))
 short_gives None left w s size o i four is fits k = tt
 short_gives (Some xs) None w s size o i four is fits k = absurd k
 short_gives (Some xs) (Some ys) w s size o i four is fits k =
@@ -119,13 +106,13 @@ short_gives (Some xs) (Some ys) w s size o i four is fits k =
 
 -- a record that fills the window, and goes on
 module _ (w v : List ℕ) (s : Span) (len size : ℕ) (m : length w ≡ len) (o : s.from ≤ s.to) (i : s.to ≤ length w) (full : len ≤ s.to - s.from) (large : 10090 < len) (is : size ≡ size_of (drop s.from w)) (l : len < size) where
-  pub long_gives : (known mid left : Option (List ℕ)) (most n : ℕ) → length v ≡ length w → take (s.from + 10090) v ≡ take (s.from + 10090) w
-      → Keeps known (left_of w s mid) → Skipped mid left (s.from + 10090) most (size - len) (I.To n)
-      → IfSome known (λ xs. Gives xs v left (N.Record (record { from = s.from; to = s.from + 10090; end = s.from + 10090 })))
-  long_gives None mid left most n same_length kept k over = tt
-  long_gives (Some xs) None left most n same_length kept k over = absurd k
-  long_gives (Some xs) (Some ms) None most n same_length kept k (bs, brought, count) = absurd brought
-  long_gives (Some xs) (Some ms) (Some ys) most n same_length kept k (bs, brought, count) =
+  pub long_gives : (known mid left : Option (List ℕ)) → length v ≡ length w → take (s.from + 10090) v ≡ take (s.from + 10090) w
+      → Keeps known (left_of w s mid) → (bs : List ℕ) × Consumes mid left bs × (length bs ≡ size - len)
+      → IfSome known (λ xs. Begins xs v left (record { from = s.from; to = s.from + 10090; end = s.from + 10090 }))
+  long_gives None mid left same_length kept k over = tt
+  long_gives (Some xs) None left same_length kept k over = absurd k
+  long_gives (Some xs) (Some ms) None same_length kept k (bs, brought, count) = absurd brought
+  long_gives (Some xs) (Some ms) (Some ys) same_length kept k (bs, brought, count) =
       let at : Place = record { from = s.from; to = s.from + 10090; end = s.from + 10090 } in
       let us : List ℕ = unused w s in
       let four : 4 ≤ s.to - s.from = omega arith in
@@ -144,31 +131,6 @@ module _ (w v : List ℕ) (s : Span) (len size : ℕ) (m : length w ≡ len) (o 
         shown = rw t shows;
         behind = rw (e, z) (ap (λ (zs : List ℕ). Some zs) (sym (ap (drop size) ends ∙ drop_at (us ++ bs) ys size all_length)));
       })
-
-  pub long_cut : (known mid left : Option (List ℕ)) (most : ℕ) (u : List ℕ) → s.from + 10090 < most → Keeps known (left_of w s mid)
-      → Skipped mid left (s.from + 10090) most (size - len) I.Ended → IfSome known (λ xs. Gives xs u left N.Cut)
-  long_cut None mid left most u room k over = tt
-  long_cut (Some xs) None left most u room k over = absurd k
-  long_cut (Some xs) (Some ms) None most u room k (bs, brought, few, end) = absurd brought
-  long_cut (Some xs) (Some ms) (Some ys) most u room k (bs, brought, few, end) =
-      let us : List ℕ = unused w s in
-      let e : size_of (us ++ ms) ≡ size = same w ms s o i (omega arith) ∙ sym is in
-      let none : length ys ≡ 0 = ap length (end room) in
-      let n : length ms ≡ length bs + length ys = ap length brought ∙ length-append bs ys in
-      let both : length (us ++ ms) ≡ (s.to - s.from) + length bs = whole_length w ms s o i ∙ omega arith in
-      subst (λ (zs : List ℕ). (0 < length zs) × (length zs < size_of zs)) k (rw (e, both) (omega arith, omega arith))
-
-  pub long_unfinished : (known mid left : Option (List ℕ)) (most : ℕ) (u : List ℕ) (x : Input) (r : Next) → s.from + 10090 < most → Keeps known (left_of w s mid)
-      → Skipped mid left (s.from + 10090) most (size - len) x → ((n : ℕ) → x ≡ I.To n → ⊥) → r ≡ unfinished_as x → IfSome known (λ xs. Gives xs u left r)
-  long_unfinished known mid left most u (I.To n) r room k over other is = absurd (other n refl)
-  long_unfinished known mid left most u I.Ended r room k over other is =
-      subst (λ (x : Next). IfSome known (λ xs. Gives xs u left x)) (sym is) (long_cut known mid left most u room k over)
-  long_unfinished known mid left most u (I.Failed e) r room k over other is =
-      subst (λ (x : Next). IfSome known (λ xs. Gives xs u left x)) (sym is) (nothing known)
-    where
-      nothing : (known : Option (List ℕ)) → IfSome known (λ xs. Gives xs u left (N.Failed e))
-      nothing None = tt
-      nothing (Some xs) = tt
 
 -- ---- Writes
 pub wrote_more : (p q r : Option (List ℕ)) (out : List ℕ) (done n : ℕ) → done ≤ n → Appends p q (take done out) → Appends q r (take (n - done) (drop done out)) → Appends p r (take n out)

@@ -1,12 +1,8 @@
 -- What is promised of the window that an input is read through, whatever the input is: where the bytes stand that a read brings,
 -- that a record is as long as its length says, and that bytes that are read and not used stay. Which bytes they are is in Left.
-use Rattle.std.specs.Prelude.{ℕ, ◌+◌, ◌-◌, ◌*◌, ◌≤◌, ◌≡◌, List, leb, length, take, drop, get_or, cond}
+use Rattle.std.specs.Prelude.{ℕ, ◌+◌, ◌-◌, ◌*◌, ◌≤◌, ◌≡◌, List, leb, length, take, drop, get_or, cond, Option, Some, None, Result, Ok, Err}
 use Rattle.stream.specs.declared.Span.{Span}
 use Rattle.stream.specs.declared.Place.{Place}
-use Rattle.stream.specs.declared.Input.{Input}
-use Rattle.stream.specs.declared.Input.TheVariants as I
-use Rattle.stream.specs.declared.Held.{Held}
-use Rattle.stream.specs.declared.Held.TheVariants as H
 use Rattle.stream.specs.declared.Next.{Next}
 use Rattle.stream.specs.declared.Next.TheVariants as N
 
@@ -23,10 +19,10 @@ abbrev pub Stay : ℕ → List ℕ → ℕ → List ℕ → ℕ → Type 0
 Stay n before from after now = (k : ℕ) → k ≤ n → take k (drop now after) ≡ take k (drop from before)
 
 -- there are bytes up to a place that is not before `to` and not behind `end`
-abbrev pub Reached : ℕ → ℕ → Input → Type 0
-Reached to end (I.To n) = (to ≤ n) × (n ≤ end)
-Reached to end I.Ended = Unit {0}
-Reached to end (I.Failed e) = Unit {0}
+abbrev pub Reached : {E : Type 0} → ℕ → ℕ → Result (Option ℕ) E → Type 0
+Reached to end (Ok (Some n)) = (to ≤ n) × (n ≤ end)
+Reached to end (Ok None) = Unit {0}
+Reached to end (Err e) = Unit {0}
 
 -- the bytes of a span, and more behind them
 pub record Longer (before : List ℕ) (old : Span) (after : List ℕ) (s : Span) : Type 0 where
@@ -35,9 +31,9 @@ pub record Longer (before : List ℕ) (old : Span) (after : List ℕ) (s : Span)
   pub longer : old.to - old.from ≤ s.to - s.from
   pub stay : Stay (old.to - old.from) before old.from after s.from
 
-abbrev pub Holds : List ℕ → Span → List ℕ → Held → Type 0
-Holds before old after (H.Of s) = Longer before old after s
-Holds before old after (H.Failed e) = Unit {0}
+abbrev pub Holds : {E : Type 0} → List ℕ → Span → List ℕ → Result Span E → Type 0
+Holds before old after (Ok s) = Longer before old after s
+Holds before old after (Err e) = Unit {0}
 
 -- a record at a place of the window: as much of it as is kept, with the unused bytes, in their order, as its first ones and
 -- behind it
@@ -49,15 +45,8 @@ pub record Stands (before : List ℕ) (old : Span) (after : List ℕ) (p : Place
   pub stay : (k : ℕ) → k ≤ old.to - old.from → k ≤ p.end - p.from → take k (drop p.from after) ≡ take k (drop old.from before)
 
 -- the input has ended only where no byte is left unused
-abbrev pub Found : List ℕ → Span → List ℕ → Next → Type 0
-Found before old after (N.Record p) = Stands before old after p
-Found before old after N.Cut = Unit {0}
-Found before old after N.Ended = old.to ≡ old.from
-Found before old after (N.Failed e) = Unit {0}
-
--- no record, and not the input's good end
-abbrev pub IsCut : Next → Type 0
-IsCut (N.Record p) = ⊥
-IsCut N.Cut = Unit {0}
-IsCut N.Ended = ⊥
-IsCut (N.Failed e) = Unit {0}
+abbrev pub Found : {E : Type 0} → List ℕ → Span → List ℕ → Result Next E → Type 0
+Found before old after (Ok (N.Record p)) = Stands before old after p
+Found before old after (Ok N.Cut) = Unit {0}
+Found before old after (Ok N.Ended) = old.to ≡ old.from
+Found before old after (Err e) = Unit {0}

@@ -2,10 +2,10 @@
 // whatever reads and the output whatever writes; a program hands over its standard input and its standard output.
 #![tactic(auto)]
 
-ghost use Rattle.std.specs.Prelude.{◌≡◌, ℕ, ◌+◌, ◌-◌, ◌≤◌, ◌<◌, min, IsOk, OnOk, IfSome, length, take, drop};
+ghost use Rattle.std.specs.Prelude.{◌≡◌, ℕ, ◌+◌, ◌-◌, ◌≤◌, ◌<◌, IsOk, OnOk, IfOk, IfSome, length, take, drop};
 ghost use Rattle.std.specs.Io.KnownBytes.{Appends};
-ghost use Rattle.stream.specs.Window.{size_of, Stay, Reached, Longer, Holds, Stands, IsCut, Found};
-ghost use Rattle.stream.specs.Left.{left_of, Stays, stopped_at, Brought, Filled, Skipped, HoldsLeft, Gives, Wrote, unfinished_as};
+ghost use Rattle.stream.specs.Window.{size_of, Reached, Holds, Found};
+ghost use Rattle.stream.specs.Left.{left_of, Stays, Brought, Filled, Skipped, HoldsLeft, Gives, Wrote};
 
 use std::io;
 use std::io::{Error, ErrorKind, Read, Write};
@@ -30,41 +30,26 @@ pub struct Place {
     pub end: usize,
 }
 
-// A record; bytes that are none, where the input ends; no byte, where it ends; or a read that failed, which is not the end of the
-// input, and why. It has failed too where the window is too short or the span is none.
+// A record; bytes that are none, where the input ends; or no byte, where it ends.
 #[derive(Clone, Copy)]
 pub enum Next {
     Record(Place),
     Cut,
     Ended,
-    Failed(Error),
 }
 
-// What a read did: there are bytes up to a place, the input has ended, or the read failed. A write does the same: the bytes up to a
-// place are written, the output takes no more, or the write failed.
-#[derive(Clone, Copy)]
-enum Input {
-    To(usize),
-    Ended,
-    Failed(Error),
-}
+// What a read did: there are bytes up to a place, or, at `None`, the input has ended. A write does the same: the bytes up to a place
+// are written, or the output takes no more.
+type Moved = io::Result<Option<usize>>;
 
-#[derive(Clone, Copy)]
-enum Held {
-    Of(Span),
-    Failed(Error),
-}
-
-// A call that a signal interrupted is made again.
-fn failed(e: Error, to: usize, end: usize) -> Input
-    requires { to ≤ end }
-    ensures reached { Reached to end result }
-    ensures stays { Stays to result }
+// A call that a signal interrupted is made again: it moved nothing.
+fn failed(e: Error, to: usize) -> Moved
+    ensures { Stays to result }
 {
     if e.kind() == ErrorKind::Interrupted {
-        return Input::To(to);
+        return Ok(Some(to));
     }
-    Input::Failed(e)
+    Err(e)
 }
 
 // A proved loop has to end, and nothing says that a signal does not interrupt every call: so the calls are counted, up to a number
@@ -74,36 +59,23 @@ fn too_often() -> Error {
 }
 
 // One read into the window's bytes from `to` to `end`.
-fn read_some<R: Read>(input: &mut R, window: &mut [u8], to: usize, end: usize) -> Input
+fn read_some<R: Read>(input: &mut R, window: &mut [u8], to: usize, end: usize) -> Moved
     requires { (to ≤ end) × (end ≤ length window.old) }
     ensures reached { Reached to end result }
     ensures window_unchanged { take to window.new ≡ take to window.old }
     ensures bytes { Brought (R.remaining input.old) (R.remaining input.new) to end window.new result }
 {
     match input.read(&mut window[to..end]) {
-        Ok(0) => Input::Ended,
-        Ok(n) => Input::To(to + n),
-        Err(e) => failed(e, to, end),
-    }
-}
-
-// Where the input ended, the bytes up to `to` are all.
-fn stopped(x: Input, to: usize, end: usize) -> Input
-    requires { to ≤ end }
-    ensures reached { Reached to end result }
-    ensures value { result ≡ stopped_at to x }
-{
-    match x {
-        Input::To(_) => Input::To(to),
-        Input::Ended => Input::To(to),
-        Input::Failed(e) => Input::Failed(e),
+        Ok(0) => Ok(None),
+        Ok(n) => Ok(Some(to + n)),
+        Err(e) => failed(e, to),
     }
 }
 
 // Reads until there are bytes up to `want`, or the input ends.
-fn fill<R: Read>(input: &mut R, window: &mut [u8], have: usize, want: usize) -> Input
+fn fill<R: Read>(input: &mut R, window: &mut [u8], have: usize, want: usize) -> io::Result<usize>
     requires { have ≤ length window.old }
-    ensures reached { Reached have (length window.old) result }
+    ensures reached { IfOk result (λ n. (have ≤ n) × (n ≤ length window.old)) }
     ensures window_unchanged { take have window.new ≡ take have window.old }
     ensures bytes { Filled (R.remaining input.old) (R.remaining input.new) have want window.new result }
 {
@@ -111,19 +83,18 @@ fn fill<R: Read>(input: &mut R, window: &mut [u8], have: usize, want: usize) -> 
     let mut to = have;
     for _ in 0..u64::MAX {
         if want <= to {
-            return Input::To(to);
+            return Ok(to);
         }
-        let got = read_some(input, window, to, end);
-        let Input::To(n) = got else {
-            return stopped(got, to, end);
+        let Some(n) = read_some(input, window, to, end)? else {
+            return Ok(to);
         };
         to = n;
     }
-    Input::Failed(too_often())
+    Err(too_often())
 }
 
-// Reads `count` bytes and forgets them: they go behind the first `from` bytes of the window.
-fn skip<R: Read>(input: &mut R, window: &mut [u8], from: usize, count: usize) -> Input
+// Reads `count` bytes and forgets them: they go behind the first `from` bytes of the window. It says whether there were as many.
+fn skip<R: Read>(input: &mut R, window: &mut [u8], from: usize, count: usize) -> io::Result<bool>
     requires { from ≤ length window.old }
     ensures window_unchanged { take from window.new ≡ take from window.old }
     ensures bytes { Skipped (R.remaining input.old) (R.remaining input.new) from (length window.old) count result }
@@ -132,55 +103,31 @@ fn skip<R: Read>(input: &mut R, window: &mut [u8], from: usize, count: usize) ->
     let mut left = count;
     for _ in 0..u64::MAX {
         if left == 0 {
-            return Input::To(from);
+            return Ok(true);
         }
-        let end = from + least(left, room);
-        let got = read_some(input, window, from, end);
-        let Input::To(n) = got else {
-            return got;
+        let end = from + left.min(room);
+        let Some(n) = read_some(input, window, from, end)? else {
+            return Ok(false);
         };
         left -= n - from;
     }
-    Input::Failed(too_often())
-}
-
-fn least(a: usize, b: usize) -> usize
-    ensures upper_bound { result ≤ a }
-    ensures upper_bound_2 { result ≤ b }
-    ensures value { result ≡ min a b }
-{
-    if a < b { a } else { b }
-}
-
-// The bytes from `from` to `to` move to the window's start.
-fn slide(window: &mut [u8], from: usize, to: usize)
-    requires { (from ≤ to) × (to ≤ length window.old) }
-    ensures { take (to - from) window.new ≡ take (to - from) (drop from window.old) }
-{
-    for i in 0..to - from {
-        window[i] = window[from + i];
-    }
+    Err(too_often())
 }
 
 // The unused bytes, read on until there are `want`, or all that is left of the input.
-fn hold<R: Read>(input: &mut R, window: &mut [u8], span: Span, want: usize) -> Held
+fn hold<R: Read>(input: &mut R, window: &mut [u8], span: Span, want: usize) -> io::Result<Span>
     requires from_le_to { span.from ≤ span.to }
     requires to_in_bounds { span.to ≤ length window.old }
     ensures holds { Holds window.old span window.new result }
     ensures bytes { HoldsLeft (left_of window.old span (R.remaining input.old)) (R.remaining input.new) want window.new result }
 {
-    let from = span.from;
-    let to = span.to;
-    let have = to - from;
+    let have = span.to - span.from;
     if want <= have {
-        return Held::Of(span);
+        return Ok(span);
     }
-    slide(window, from, to);
-    match fill(input, window, have, want) {
-        Input::To(n) => Held::Of(Span { from: 0, to: n }),
-        Input::Ended => Held::Of(Span { from: 0, to: have }),
-        Input::Failed(e) => Held::Failed(e),
-    }
+    window.copy_within(span.from..span.to, 0);
+    let to = fill(input, window, have, want)?;
+    Ok(Span { from: 0, to })
 }
 
 // How long the record is that stands at a place, by its length.
@@ -188,11 +135,11 @@ fn size_at(window: &[u8], at: usize) -> usize
     requires { at + 4 ≤ length window.now }
     ensures { result ≡ size_of (drop at window.now) }
 {
-    4 + (window[at + 2] as usize * 256 + window[at + 3] as usize)
+    4 + usize::from(u16::from_be_bytes([window[at + 2], window[at + 3]]))
 }
 
 // A record that the window cannot hold: the window is filled, the rest of the record stepped over.
-fn long<R: Read>(input: &mut R, window: &mut [u8], head: Span, size: usize) -> Next
+fn long<R: Read>(input: &mut R, window: &mut [u8], head: Span, size: usize) -> io::Result<Next>
     requires in_bounds { 10090 < length window.old }
     requires from_le_to { head.from ≤ head.to }
     requires to_in_bounds { head.to ≤ length window.old }
@@ -203,40 +150,23 @@ fn long<R: Read>(input: &mut R, window: &mut [u8], head: Span, size: usize) -> N
     ensures bytes { IfSome (left_of window.old head (R.remaining input.old)) (λ s. Gives s window.new (R.remaining input.new) result) }
 {
     let len = window.len();
-    let full = match hold(input, window, head, len) {
-        Held::Of(full) => full,
-        Held::Failed(e) => return Next::Failed(e),
-    };
-    let from = full.from;
-    if full.to - from < len {
-        return Next::Cut;
+    let full = hold(input, window, head, len)?;
+    if full.to - full.from < len {
+        return Ok(Next::Cut);
     }
-    let kept = from + KEPT;
-    let over = skip(input, window, kept, size - len);
-    let Input::To(_) = over else {
-        return unfinished(over);
-    };
-    Next::Record(Place {
-        from,
+    let kept = full.from + KEPT;
+    if !skip(input, window, kept, size - len)? {
+        return Ok(Next::Cut);
+    }
+    Ok(Next::Record(Place {
+        from: full.from,
         to: kept,
         end: kept,
-    })
-}
-
-// The input ended inside a record, or a read failed.
-fn unfinished(x: Input) -> Next
-    ensures cut { IsCut result }
-    ensures value { result ≡ unfinished_as x }
-{
-    match x {
-        Input::To(_) => Next::Cut,
-        Input::Ended => Next::Cut,
-        Input::Failed(e) => Next::Failed(e),
-    }
+    }))
 }
 
 // A record that the window can hold.
-fn short<R: Read>(input: &mut R, window: &mut [u8], head: Span, size: usize) -> Next
+fn short<R: Read>(input: &mut R, window: &mut [u8], head: Span, size: usize) -> io::Result<Next>
     requires from_le_to { head.from ≤ head.to }
     requires to_in_bounds { head.to ≤ length window.old }
     requires bound { 4 ≤ head.to - head.from }
@@ -245,70 +175,60 @@ fn short<R: Read>(input: &mut R, window: &mut [u8], head: Span, size: usize) -> 
     ensures found { Found window.old head window.new result }
     ensures bytes { IfSome (left_of window.old head (R.remaining input.old)) (λ s. Gives s window.new (R.remaining input.new) result) }
 {
-    let whole = match hold(input, window, head, size) {
-        Held::Of(whole) => whole,
-        Held::Failed(e) => return Next::Failed(e),
-    };
-    let from = whole.from;
-    let end = whole.to;
-    if end - from < size {
-        return Next::Cut;
+    let whole = hold(input, window, head, size)?;
+    if whole.to - whole.from < size {
+        return Ok(Next::Cut);
     }
-    Next::Record(Place {
-        from,
-        to: from + size,
-        end,
-    })
+    Ok(Next::Record(Place {
+        from: whole.from,
+        to: whole.from + size,
+        end: whole.to,
+    }))
 }
 
 // The next record of the input, read from the window's unused bytes on.
-fn first<R: Read>(input: &mut R, window: &mut [u8], span: Span) -> Next
+fn first<R: Read>(input: &mut R, window: &mut [u8], span: Span) -> io::Result<Next>
     requires in_bounds { 10090 < length window.old }
     requires from_le_to { span.from ≤ span.to }
     requires to_in_bounds { span.to ≤ length window.old }
     ensures found { Found window.old span window.new result }
     ensures bytes { IfSome (left_of window.old span (R.remaining input.old)) (λ s. Gives s window.new (R.remaining input.new) result) }
 {
-    let head = match hold(input, window, span, 4) {
-        Held::Of(head) => head,
-        Held::Failed(e) => return Next::Failed(e),
-    };
-    let at = head.from;
-    let n = head.to - at;
-    if n == 0 {
-        return Next::Ended;
+    let head = hold(input, window, span, 4)?;
+    match head.to - head.from {
+        0 => return Ok(Next::Ended),
+        1..=3 => return Ok(Next::Cut),
+        _ => {}
     }
-    if n < 4 {
-        return Next::Cut;
-    }
-    let size = size_at(window, at);
+    let size = size_at(window, head.from);
     if window.len() < size {
         return long(input, window, head, size);
     }
     short(input, window, head, size)
 }
 
-pub fn read_next<R: Read>(input: &mut R, window: &mut [u8], span: Span) -> Next
+// A read that failed is not the end of the input: its error comes. One comes too where the window is too short or the span is none.
+pub fn read_next<R: Read>(input: &mut R, window: &mut [u8], span: Span) -> io::Result<Next>
     ensures found { Found window.old span window.new result }
     ensures bytes { IfSome (left_of window.old span (R.remaining input.old)) (λ s. Gives s window.new (R.remaining input.new) result) }
 {
     let len = window.len();
     if len <= KEPT || len < span.to || span.to < span.from {
-        return Next::Failed(Error::from(ErrorKind::InvalidInput));
+        return Err(Error::from(ErrorKind::InvalidInput));
     }
     first(input, window, span)
 }
 
 // One write of the bytes from `done` on.
-fn write_some<W: Write>(output: &mut W, out: &[u8], done: usize) -> Input
+fn write_some<W: Write>(output: &mut W, out: &[u8], done: usize) -> Moved
     requires { done ≤ length out.now }
     ensures reached { Reached done (length out.now) result }
     ensures bytes { Wrote (W.contents output.old) (W.contents output.new) done out.now result }
 {
     match output.write(&out[done..]) {
-        Ok(0) => Input::Ended,
-        Ok(n) => Input::To(done + n),
-        Err(e) => failed(e, done, out.len()),
+        Ok(0) => Ok(None),
+        Ok(n) => Ok(Some(done + n)),
+        Err(e) => failed(e, done),
     }
 }
 
@@ -322,11 +242,10 @@ pub fn write_all<W: Write>(output: &mut W, out: &[u8]) -> io::Result<()>
         if out.len() <= done {
             return Ok(());
         }
-        match write_some(output, out, done) {
-            Input::To(n) => done = n,
-            Input::Ended => return Err(Error::from(ErrorKind::WriteZero)),
-            Input::Failed(e) => return Err(e),
-        }
+        let Some(n) = write_some(output, out, done)? else {
+            return Err(Error::from(ErrorKind::WriteZero));
+        };
+        done = n;
     }
     Err(too_often())
 }
@@ -401,7 +320,7 @@ mod tests {
             fails: false,
         };
         let mut window = [0u8; 10240];
-        let Next::Record(p) = read_next(&mut input, &mut window, Span { from: 0, to: 0 }) else {
+        let Ok(Next::Record(p)) = read_next(&mut input, &mut window, Span { from: 0, to: 0 }) else {
             panic!(rt; "no record");
         };
         assert_eq!(rt; p.to - p.from, 5);
@@ -411,7 +330,7 @@ mod tests {
             to: p.end,
         };
         let next = read_next(&mut input, &mut window, rest);
-        assert!(rt; matches!(next, Next::Cut));
+        assert!(rt; matches!(next, Ok(Next::Cut)));
     }
 
     // The same, where the read behind the first record fails.
@@ -423,14 +342,14 @@ mod tests {
             fails: true,
         };
         let mut window = [0u8; 10240];
-        let Next::Record(p) = read_next(&mut input, &mut window, Span { from: 0, to: 0 }) else {
+        let Ok(Next::Record(p)) = read_next(&mut input, &mut window, Span { from: 0, to: 0 }) else {
             panic!(rt; "no record");
         };
         let rest = Span {
             from: p.to,
             to: p.end,
         };
-        let Next::Failed(e) = read_next(&mut input, &mut window, rest) else {
+        let Err(e) = read_next(&mut input, &mut window, rest) else {
             panic!(rt; "no failure");
         };
         assert_eq!(rt; e.kind(), ErrorKind::BrokenPipe);

@@ -9,13 +9,10 @@ ghost use Rattle.writer.specs.Writing.{be, put};
 pub fn room(buf: &[u8], at: usize, n: usize) -> bool
     ensures { result ≡ leb (at + n) (length buf.now) }
 {
-    let len = buf.len();
-    if len < n {
-        return false;
-    }
-    at <= len - n
+    n <= buf.len() && at <= buf.len() - n
 }
 
+#[tactic(auto, unfolding(crate::specs::Writing::put, crate::specs::Writing::over))]
 pub fn byte(buf: &mut [u8], at: usize, b: u8) -> usize
     ensures value { result ≡ (put (b ∷ []) at buf.old).0 }
     ensures buf_after { buf.new ≡ (put (b ∷ []) at buf.old).1 }
@@ -27,6 +24,7 @@ pub fn byte(buf: &mut [u8], at: usize, b: u8) -> usize
     at + 1
 }
 
+#[tactic(auto, unfolding(crate::specs::Writing::put, crate::specs::Writing::over))]
 pub fn bytes(buf: &mut [u8], at: usize, src: &[u8]) -> usize
     ensures value { result ≡ (put src.now at buf.old).0 }
     ensures buf_after { buf.new ≡ (put src.now at buf.old).1 }
@@ -35,15 +33,12 @@ pub fn bytes(buf: &mut [u8], at: usize, src: &[u8]) -> usize
     if !room(buf, at, n) {
         return at;
     }
-    let mut i: usize = 0;
-    while i < n {
-        buf[at + i] = src[i];
-        i += 1;
-    }
+    buf[at..at + n].copy_from_slice(src);
     at + n
 }
 
 // "Numbers are big-endian": the last byte is the lowest.
+#[tactic(auto, using(crate::proofs::Laws::length_be, crate::proofs::Laws::over_be, crate::proofs::Laws::over_be_none), unfolding(crate::specs::Writing::put))]
 pub fn number(buf: &mut [u8], at: usize, width: usize, v: u64) -> usize
     ensures value { result ≡ (put (be width v) at buf.old).0 }
     ensures buf_after { buf.new ≡ (put (be width v) at buf.old).1 }
@@ -51,12 +46,10 @@ pub fn number(buf: &mut [u8], at: usize, width: usize, v: u64) -> usize
     if !room(buf, at, width) {
         return at;
     }
-    let mut x = v;
-    let mut i = width;
-    while 0 < i {
-        i = i - 1;
-        buf[at + i] = (x % 256) as u8;
-        x = x / 256;
+    let mut rest = v;
+    for i in (0..width).rev() {
+        buf[at + i] = (rest % 256) as u8;
+        rest /= 256;
     }
     at + width
 }
