@@ -195,7 +195,7 @@ ones-set (suc n) f =
 pub ones_places : (s : ℕ) → s < 2 ^ 16 → ones s ≡ length (places_in s)
 ones_places s h = rw (set_bits 16 s h) at (ones-set 16 (bit_at s))
 
-eqb_sym : (a b : ℕ) → eqb a b ≡ eqb b a
+pub eqb_sym : (a b : ℕ) → eqb a b ≡ eqb b a
 eqb_sym a b = by_test (eqb b a) refl
   where
     by_test : (t : Bool) → eqb b a ≡ t → eqb a b ≡ t
