@@ -1,5 +1,5 @@
 -- "for a basic prefix 12, 13 (anything but Simple(1)), 14, and with code B also 15, 16, 17". 12's detail: the key count.
-use Rattle.std.specs.Prelude.{ℕ, List, [], ◌∷◌, Bool, true, false, eqb, get_or}
+use Rattle.std.specs.Prelude.{ℕ, List, [], ◌∷◌, eqb, get_or}
 use Rattle.lists.specs.Lists.{pick, both}
 use Rattle.answer.specs.declared.Answer.{Answer}
 use Rattle.answer.specs.Answer.{refused, accepted, refuse_unless, first_refusal}

@@ -1,5 +1,5 @@
 -- Searches along a witness list, its checks in order, and the two passes of an update. Assumes nothing.
-use mathlib.Core.Path.{◌≡◌, refl, sym, ◌∙◌, ap}
+use mathlib.Core.Path.{◌≡◌, refl, sym, ◌∙◌}
 use mathlib.Core.Bool.{Bool, true, false}
 use mathlib.Core.List.{List, [], ◌∷◌, ◌++◌}
 use Prim.Native.Nat.{ℕ, ◌+◌, ◌<◌, ◌≤◌}
@@ -24,7 +24,7 @@ use Rattle.items.specs.contracts.Items.{the_row}
 use Rattle.items.specs.Items.{listed, packed, member}
 use Rattle.items.proofs.Laws.{no_item, made, listed-packed, places-16}
 use Rattle.answer.specs.Answer.{refused, accepted}
-use Rattle.member_set.specs.Members.{repeat_from, absent, joined, change_of, Change}
+use Rattle.member_set.specs.Members.{repeat_from, absent, joined, change_of}
 use Rattle.member_set.specs.Parts.{grown, pushed}
 
 -- ---- the search for a repeat, place by place

@@ -83,7 +83,7 @@ fn refuse_at(found: Option<usize>, refusal: Refusal) -> Result<(), Refusal>
     }
 }
 
-// `list` stays a u8: an enum would ask more of callers, and the clause holds for every number.
+// `list` stays a u8 in these checks: an enum would ask more of callers, and the clauses hold for every number.
 #[tactic(auto, using(lists::proofs::Facts::first_any))]
 pub fn check_members(l: Items, list: u8) -> Result<(), Refusal>
     ensures { answered result ≡ duplicate list (listed l) }

@@ -1,5 +1,5 @@
 -- The witness threshold. "Witnesses 0 to 7 give 0, 1, 2, 3, 3, 4, 4, 5; 10 gives 7; 16 gives 11." 39's detail: witnesses; 40's: toad, witnesses.
-use Rattle.std.specs.Prelude.{Result, Ok, Err, ℕ, ◌+◌, ◌-◌, ◌/◌, ◌^◌, min, max, Bool, true, false, eqb, ltb, leb}
+use Rattle.std.specs.Prelude.{Result, Ok, Err, ℕ, ◌+◌, ◌-◌, ◌/◌, ◌^◌, min, max, Bool, eqb, ltb, leb}
 use Rattle.lists.specs.Lists.{pick, both}
 use Rattle.answer.specs.declared.Answer.{Answer}
 use Rattle.answer.specs.declared.Refusal.{Refusal}
