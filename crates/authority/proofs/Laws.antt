@@ -16,7 +16,8 @@ use Rattle.items.specs.Items.{listed}
 use Rattle.places.specs.Places.{bit_at, places_in, among}
 use Rattle.places.proofs.Laws.{among-chosen, places-set}
 use Rattle.threshold.specs.declared.Threshold.{Threshold}
-use Rattle.threshold.specs.declared.Judgement.TheVariants.{Met, Short}
+use Rattle.std.specs.Prelude.{Result, Ok, Err}
+use Rattle.threshold.specs.declared.Short.{Short}
 use Rattle.threshold.specs.Threshold.{judged, satisfied}
 use Rattle.threshold.proofs.Laws.{judged-same}
 use Rattle.verification.specs.declared.Sigers.{Sigers}
@@ -41,13 +42,13 @@ module _ (which : ℕ) (t : Threshold) (set n : ℕ) (h : length t.weights ≡ 1
   same-judged =
       rw e (judged-same (bit_at set) (among (places_in set)) (λ k l. sym (among-chosen 16 (bit_at set) k ∙ rw (lt-ltb k 16 l))) t (length (places_in set)) (omega arith))
 
-  pub quorum_met : Met ≡ judged t n (bit_at set) → accepted ≡ quorum which t (places_in set)
+  pub quorum_met : Ok tt ≡ judged t n (bit_at set) → accepted ≡ quorum which t (places_in set)
   unfolding quorum
   quorum_met m = rw (← m ∙ same-judged)
 
-  pub quorum-short : (clause : ℕ) → Short clause ≡ judged t n (bit_at set) → refused which n clause ≡ quorum which t (places_in set)
+  pub quorum_short : (short : Short) → Err short ≡ judged t n (bit_at set) → refused which n short.clause ≡ quorum which t (places_in set)
   unfolding quorum
-  quorum-short clause m = rw (← m ∙ same-judged, e)
+  quorum_short short m = rw (← m ∙ same-judged, e)
 
 -- a quorum that passes is nothing but accepted
 pub clean_quorum : (which : ℕ) (t : Threshold) (ps : List ℕ) → passes (too_few which t ps) ≡ false → Clean (quorum which t ps)
@@ -100,3 +101,8 @@ module _ (keys next : ℕ) (l : Sigers) (c : Counted) (e : c ≡ counted_of keys
       let h : quorum 28 o.threshold (places_in c.exposed) ≡ y = rw (exposed_is, k, m) in
       let p : y ≡ first_refusal (y ∷ []) = last y y (clean_quorum 28 o.threshold _ refl) refl in
       h ∙ p ∙ sym (passed (verifies a l) (y ∷ []) (sym (ap (λ (b : Answer). b.number) g) ∙ z))
+
+-- a count's shortfall, named
+pub missing : (r : Result (Unit {0}) TooFew) (x : Result (Unit {0}) Refusal) → MatchResult r (λ _. x ≡ Ok tt) (λ e. x ≡ Err (MissingSignatures e)) → answered x ≡ counted_as 27 r
+missing (Ok tt) x e = rw e
+missing (Err few) x e = rw e

@@ -1,14 +1,15 @@
 // The three counts: signatures against an authority (27), exposed commitments (28), receipts of witnesses (32).
 #![tactic(auto)]
 
-ghost use Rattle.std.specs.Prelude.{◌≡◌, length};
+ghost use Rattle.std.specs.Prelude.{◌≡◌, ℕ, length};
+ghost use Rattle.answer.specs.Refusal.{answered, counted_as};
 ghost use Rattle.items.specs.Items.{listed};
 ghost use Rattle.places.specs.Places.{places_in};
 ghost use Rattle.authority.specs.Authority.{quorum, receipts, verifies, opens, witnessed};
 
-use answer::Answer;
+use answer::{Refusal, TooFew};
 use items::Items;
-use threshold::{Judgement, Threshold};
+use threshold::Threshold;
 use verification::Sigers;
 
 // Who may sign.
@@ -35,63 +36,60 @@ pub struct Witnessing {
 fn used(l: Items) -> usize
     ensures { result ≡ length (listed l) }
 {
-    if l.count < 16 { l.count } else { 16 }
+    l.count.min(16)
 }
 
-// A set of places against a threshold; a refusal names how many there are, and the first clause that is short.
-pub fn quorum(which: u8, t: Threshold, set: u16) -> Answer
-    ensures { result ≡ quorum which t (places_in set) }
+// A set of places against a threshold; what is too few names how many there are, and the first clause that is short.
+pub fn quorum(t: Threshold, set: u16) -> Result<(), TooFew>
+    ensures { (which : ℕ) → counted_as which result ≡ quorum which t (places_in set) }
 {
-    let n = places::size(set);
-    match threshold::judge(t, n as usize, set) {
-        Judgement::Met => answer::accept(),
-        Judgement::Short(clause) => answer::refuse(which, n as u64, clause as u64),
+    let counted = places::size(set);
+    match threshold::judge(t, counted as usize, set) {
+        Ok(()) => Ok(()),
+        Err(short) => Err(TooFew {
+            counted,
+            clause: short.clause,
+        }),
     }
 }
 
-pub fn receipts(toad: u32, set: u16) -> Answer
-    ensures { result ≡ receipts toad (places_in set) }
+#[tactic(auto, unfolding(crate::specs::Authority::receipts))]
+pub fn receipts(toad: u32, set: u16) -> Result<(), Refusal>
+    ensures { answered result ≡ receipts toad (places_in set) }
 {
-    let n = places::size(set);
-    if toad <= n {
-        return answer::accept();
+    let valid = places::size(set);
+    if toad <= valid {
+        return Ok(());
     }
-    answer::refuse(32, n as u64, toad as u64)
+    Err(Refusal::InsufficientWitnessReceipts {
+        valid,
+        required: toad,
+    })
 }
 
-pub fn verify(a: Authority, l: Sigers) -> Answer
-    ensures { result ≡ verifies a l }
+pub fn verify(a: Authority, l: Sigers) -> Result<(), Refusal>
+    ensures { answered result ≡ verifies a l }
 {
-    let keys = a.keys;
-    let t = a.threshold;
-    let counted = verification::count(l, used(keys), 0);
-    quorum(27, t, counted.verified)
+    let counted = verification::count(l, used(a.keys), 0);
+    quorum(a.threshold, counted.verified).map_err(Refusal::MissingSignatures)
 }
 
 // The signatures that count for the revealed keys are the ones that may expose the old commitments.
-pub fn verify_opening(c: Commitment, revealed: Authority, l: Sigers) -> Answer
-    ensures { result ≡ opens c revealed l }
+pub fn verify_opening(c: Commitment, revealed: Authority, l: Sigers) -> Result<(), Refusal>
+    ensures { answered result ≡ opens c revealed l }
 {
-    let keys = revealed.keys;
-    let next = c.next;
-    let counted = verification::count(l, used(keys), used(next));
-    let own = revealed.threshold;
-    let signed = quorum(27, own, counted.verified);
-    if signed.number != 0 {
-        return signed;
-    }
-    let committed = c.threshold;
-    quorum(28, committed, counted.exposed)
+    let counted = verification::count(l, used(revealed.keys), used(c.next));
+    quorum(revealed.threshold, counted.verified).map_err(Refusal::MissingSignatures)?;
+    quorum(c.threshold, counted.exposed).map_err(Refusal::PriorNextThresholdUnsatisfied)
 }
 
 // Toad 0 reads no receipts.
-pub fn receipted_by(w: Witnessing, l: Sigers) -> Answer
-    ensures { result ≡ witnessed w l }
+pub fn receipted_by(w: Witnessing, l: Sigers) -> Result<(), Refusal>
+    ensures { answered result ≡ witnessed w l }
 {
     if w.toad == 0 {
-        return answer::accept();
+        return Ok(());
     }
-    let witnesses = w.witnesses;
-    let counted = verification::count(l, used(witnesses), 0);
+    let counted = verification::count(l, used(w.witnesses), 0);
     receipts(w.toad, counted.verified)
 }

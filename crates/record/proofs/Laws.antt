@@ -24,6 +24,7 @@ use Rattle.state.specs.declared.KeyState.{KeyState}
 use Rattle.format.specs.Parse.{Parse, got, bad, bind, num_at, ended}
 use Rattle.format.specs.Fields.{sn_at, flag_at}
 use Rattle.layout.specs.Records.{tail_at, inception_at, rotation_at, interaction_at, latest_at, snapshot_at}
+use Rattle.cursor.specs.declared.Listing.{Listing}
 use Rattle.cursor.specs.Spans.{mapped}
 use Rattle.cursor.proofs.Laws.{as_is, at_place, flat}
 use Rattle.field.specs.Field.{place_at, items_place_at, config_place_at, item_of}
@@ -40,8 +41,8 @@ use Rattle.record.specs.declared.StateMarks.{StateMarks}
 use Rattle.record.specs.Marks.{tail_places, inception_places, rotation_places, interaction_places, last_places, snapshot_places, state_of, event_of}
 
 -- the signatures at a list's count and first place
-abbrev sigers_as : List ℕ → ℕ × ℕ → Sigers
-sigers_as s m = packed_sigers (sigers_of s m.0 m.1)
+abbrev sigers_as : List ℕ → Listing → Sigers
+sigers_as s m = packed_sigers (sigers_of s m.count m.first)
 
 -- ---- Chains of fields, beside those of cursor
 -- a last group that is only put into a record
@@ -75,25 +76,25 @@ pub with_value : {A B : Type 0} (g : A → B) {x p : Parse A} {v : Parse B} → 
 with_value g e h = (h, ap (mapped g) h ∙ e)
 
 module _ (s : List ℕ) (at : ℕ) where
-  pub inception-value : mapped (event_of Inception s) (inception_places s at) ≡ inception_at s at
+  pub inception_value : mapped (event_of Inception s) (inception_places s at) ≡ inception_at s at
   unfolding inception_places inception_at
-  inception-value =
+  inception_value =
       let g : EventMarks → Event = event_of Inception s in
       at_place g (head_of s) (first_head_places s at) _ _ _ (first_head_value s at) λ h p.
       at_place g (body_of s) (inception_body_places s p) _ _ _ (inception_body_value s p) λ b q.
       closing g (λ t. record { head = h; body = b; tail = t }) (tail_places s q) ∙ tail_value Inception s h b q
 
-  pub rotation-value : mapped (event_of Rotation s) (rotation_places s at) ≡ rotation_at s at
+  pub rotation_value : mapped (event_of Rotation s) (rotation_places s at) ≡ rotation_at s at
   unfolding rotation_places rotation_at
-  rotation-value =
+  rotation_value =
       let g : EventMarks → Event = event_of Rotation s in
       at_place g (head_of s) (later_head_places s at) _ _ _ (later_head_value s at) λ h p.
       at_place g (body_of s) (rotation_body_places s p) _ _ _ (rotation_body_value s p) λ b q.
       closing g (λ t. record { head = h; body = b; tail = t }) (tail_places s q) ∙ tail_value Rotation s h b q
 
-  pub interaction-value : mapped (event_of Interaction s) (interaction_places s at) ≡ interaction_at s at
+  pub interaction_value : mapped (event_of Interaction s) (interaction_places s at) ≡ interaction_at s at
   unfolding interaction_places interaction_at
-  interaction-value =
+  interaction_value =
       let g : EventMarks → Event = event_of Interaction s in
       at_place g (head_of s) (later_head_places s at) _ _ _ (later_head_value s at) λ h p.
       closing g (λ t. record { head = h; body = no_body_marks; tail = t }) (tail_places s p)
@@ -124,30 +125,6 @@ module _ (s : List ℕ) (at : ℕ) where
       flat g (place_at Said s z) _ _
       (at_place g (item_of s) (place_at Said s z) _ _ _ (item_value Said s z) λ said n.
       over_closing g _ (eqb n (length s)) _ n)))))))))
-
--- ---- What a copy holds
-module _ (s : List ℕ) where
-  pub state_is_lem : (m : StateMarks) {h : Head} {b : Body} {i : Item} → h ≡ head_of s m.head → b ≡ body_of s m.body → i ≡ item_of s m.last.said
-      → ◌≡◌ {A = KeyState}
-      (record {
-        prefix = h.prefix;
-        sn = h.sn;
-        said = h.said;
-        latest = m.latest;
-        authority = b.authority;
-        commitment = b.commitment;
-        witnessing = record { witnesses = b.additions; toad = b.toad };
-        config = b.config;
-        transferable = m.last.transferable;
-        last = record { sn = m.last.sn; said = i };
-      })
-      (state_of s m)
-  state_is_lem m p q r = rw (p, q, r)
-
--- ---- signatures where they stand
-pub gathered : (keys next : ℕ) (sigs wigs : List Siger) (own seen : Counted) → own ≡ counted_of keys next sigs → seen ≡ counted_of 16 0 wigs
-    → record { verified = own.verified; exposed = own.exposed; receipted = seen.verified } ≡ evidence_of keys next sigs wigs
-gathered keys next sigs wigs own seen p q = rw (p, q)
 
 -- packed and read back
 used : (xs : List Siger) → signatures (packed_sigers xs) ≡ xs

@@ -3,7 +3,7 @@ use Rattle.authority.proofs.Laws.{receipts-none, witnessed_is}
 use Rattle.authority.proofs.receipted_by.Goals as goal
 
 pub returns-then-w-eq0 : goal.returns-then-w-eq0
-returns-then-w-eq0 c = c.accept.ensures ∙ receipts-none _ _ c.if-w-eq0.true
+returns-then-w-eq0 c = receipts-none _ _ c.if-w-eq0.true
 
 pub returns : goal.returns
 returns c = let a = c.args in

@@ -2,7 +2,7 @@ use Rattle.std.proofs.Common.{rules}
 use Rattle.std.proofs.lemmas.Iterator.{YieldsList-from_slice}
 use Rattle.items.specs.Items.{listed}
 use Rattle.member_set.specs.Members.{absent}
-use Rattle.member_set.proofs.Chains.{yields_first}
+use Rattle.lists.proofs.Chains.{yields_first}
 use Rattle.member_set.proofs.first_absent.Goals as goal
 
 pub returns : goal.returns

@@ -1,7 +1,7 @@
 use Rattle.std.proofs.Common.{rules}
 use Rattle.std.proofs.lemmas.Iterator.{YieldsList-from_slice}
 use Rattle.item.specs.Item.{same_item}
-use Rattle.member_set.proofs.Chains.{yields_any}
+use Rattle.lists.proofs.Chains.{yields_any}
 use Rattle.member_set.proofs.has.Goals as goal
 
 pub returns : goal.returns
