@@ -8,11 +8,11 @@ use mathlib.Core.Bool.{Bool, true, false}
 use mathlib.Core.List.{List, ◌∷◌, ◌++◌, []}
 use mathlib.Core.Logic.{⊎_elim}
 use Prim.Native.Nat.{ℕ, zero, suc, ◌+◌, ◌-◌, ◌*◌, ◌/◌, ◌%◌, ◌^◌, ◌<◌, ◌≤◌}
-use native.Mathlib.Nat.{one-mul, zero-mul, zero-add, add-zero, mod-eq_of_lt, mod-lt, div-eq_of_lt, mul-add-div_right, mul-add-mod_self_right, pow-suc, pow-succ', mul_assoc, not-suc-le-zero, eq-or-lt_of_le, le_of_suc-le-suc}
+use native.Mathlib.Nat.{one-mul, zero-mul, zero-add, add-zero, mod-lt, div-eq_of_lt, mul-add-div_right, mul-add-mod_self_right, pow-suc, pow-succ', mul_assoc, not-suc-le-zero, eq-or-lt_of_le, le_of_suc-le-suc}
 use native.Mathlib.Numerals.{add-one}
 use native.Mathlib.Omega.{arith}
 use lib.ListN.{length, take, get_or, length-append}
-use lib.Seq.{take-suc, take_all}
+use lib.Seq.{take-suc}
 use lib.Dec.{ltb, eqb}
 use lib.Pow.{pow-lt, pow_mono, pow_pos, pow-add, split, high, shr_lt}
 use lib.Bits.{bit_or, or_block, or_zero_r}
@@ -192,10 +192,10 @@ ones-set (suc n) f =
     ones_bit false = refl
 
 -- a number below 2^16 has as many ones as places
-pub ones-places : (s : ℕ) → s < 2 ^ 16 → ones s ≡ length (places_in s)
-ones-places s h = rw (set_bits 16 s h) at (ones-set 16 (bit_at s))
+pub ones_places : (s : ℕ) → s < 2 ^ 16 → ones s ≡ length (places_in s)
+ones_places s h = rw (set_bits 16 s h) at (ones-set 16 (bit_at s))
 
-eqb_sym : (a b : ℕ) → eqb a b ≡ eqb b a
+pub eqb_sym : (a b : ℕ) → eqb a b ≡ eqb b a
 eqb_sym a b = by_test (eqb b a) refl
   where
     by_test : (t : Bool) → eqb b a ≡ t → eqb a b ≡ t
@@ -237,10 +237,3 @@ among_next ps set i h e =
 pub among_none : 0 ≡ set_of 16 (among [])
 unfolding any
 among_none = sym (set-none 16)
-
-pub among-all : (ps : List ℕ) (i : ℕ) → length ps ≤ i → set_of 16 (among (take i ps)) ≡ set_of 16 (among ps)
-among-all ps i h = rw (take_all i ps h)
-
--- ---- the code's shift
-pub shifted : (w p : ℕ) → p < w → (1 * 2 ^ p) % 2 ^ w ≡ 2 ^ p
-shifted w p h = rw one-mul (mod-eq_of_lt (pow-lt h))

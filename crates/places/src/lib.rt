@@ -14,11 +14,7 @@ pub fn with_place(set: u16, place: u32) -> u16
 pub fn has(set: u16, place: u32) -> bool
     ensures { result ≡ pick (ltb place 16) (bit_at set place) false }
 {
-    if place < 16 {
-        (set >> place) % 2 == 1
-    } else {
-        false
-    }
+    place < 16 && (set >> place) % 2 == 1
 }
 
 pub fn cut_to(set: u16, n: usize) -> u16
@@ -27,6 +23,7 @@ pub fn cut_to(set: u16, n: usize) -> u16
     if n < 16 { set % (1 << n) } else { set }
 }
 
+#[tactic(auto, using(crate::proofs::Laws::ones_places))]
 pub fn size(set: u16) -> u32
     ensures { result ≡ length (places_in set) }
 {
@@ -34,14 +31,13 @@ pub fn size(set: u16) -> u32
 }
 
 // The places below 16 that a lent list names.
+#[tactic(auto, using(crate::proofs::Laws::among_none, crate::proofs::Laws::among_next))]
 pub fn set_of(ps: &[u32]) -> u16
     ensures { result ≡ set_of 16 (among ps.now) }
 {
-    let mut set: u16 = 0;
-    let mut i = 0;
-    while i < ps.len() {
-        set = with_place(set, ps[i]);
-        i += 1;
+    let mut set = 0;
+    for place in ps {
+        set = with_place(set, *place);
     }
     set
 }

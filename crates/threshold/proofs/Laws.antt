@@ -4,28 +4,33 @@
 --     sum-.., clause-..    how many weights there are, and the sum of a clause, place by place
 --     reached, short, all_reached   clause after clause
 --     judged-same          only the places below 16 matter to a judgement
-use mathlib.Core.Path.{◌≡◌, refl, sym, ◌∙◌}
+use mathlib.Core.Path.{◌≡◌, refl, sym}
 use mathlib.Core.List.{List, ◌∷◌, []}
 use mathlib.Core.Bool.{Bool, true, false}
-use Prim.Native.Nat.{ℕ, zero, suc, ◌<◌, ◌≤◌, ◌+◌, ◌-◌}
+use Prim.Native.Nat.{ℕ, ◌<◌, ◌≤◌, ◌+◌}
 use native.Mathlib.Omega.{arith}
-use lib.Dec.{eqb, ltb, leb}
+use lib.Dec.{eqb, leb}
 use lib.ListN.{length, drop, take, length-take, length-drop, drop_of_length-le}
-use lib.Seq.{drop-drop, take-nil}
 use mir.Val.{Val}
 use denote.Laws.{Is}
-use borrow.Author.Tests.{ltb-true, ltb-false}
-use Rattle.lists.specs.Lists.{pick, any, first_from}
+use borrow.Author.Tests.{eqb-false}
+use Rattle.lists.specs.Lists.{pick, both, either, any, all, first_from}
 use Rattle.answer.specs.declared.Answer.{Answer}
 use Rattle.answer.specs.Answer.{refused}
-use Rattle.answer.proofs.Laws.{passed, stopped, Clean, clean_unless, clean_if, last}
+use Rattle.answer.specs.Refusal.{answer_of}
+use Rattle.answer.specs.declared.Refusal.{Refusal}
+use Rattle.answer.specs.declared.Refusal.TheVariants.{Truncated, UnknownMark, BadField, TooMany, StateHeld, EvidenceRequired, DelegatorUnknown, NotInception, DuplicateInception, NonTransferableState, NonZeroGenesisSn, BasicKeyCount, BasicThreshold, BasicKeyMismatch, NonTransferableNextKeys, NonTransferableWitnesses, NonTransferableAnchors, Duplicate, TransferableWitness, CutAddOverlap, RemovalNotCurrent, AdditionAlreadyPresent, BelowMinimum, ExceedsKeyCount, EmptyClauseList, EmptyClause, MissingSignatures, PriorNextThresholdUnsatisfied, NonTransferableCommitsNextKeys, WitnessThresholdZeroWithWitnesses, WitnessThresholdExceeded, InsufficientWitnessReceipts, IdentifierMismatch, SequenceNumberOverflow, OutOfOrder, PriorDigestMismatch, InteractionOnEstablishmentOnly, TooManyWitnesses, Overflow, OutOfRange, NoRoom}
+use Rattle.answer.proofs.Results.{refuses}
+use Rattle.answer.proofs.Laws.{stopped, Clean, clean_unless, clean_if}
+use Rattle.places.proofs.Laws.{eqb_sym}
 use Rattle.weight.specs.declared.Weight.{Weight}
-use Rattle.weight.specs.declared.Sum.{Sum}
-use Rattle.weight.specs.Weight.{weigh, no_sum, reaches_one}
+use Rattle.std.specs.Prelude.{Option, Ok, ◌&&◌, ◌||◌, min}
+use Rattle.std.specs.List.{sum as list_sum, list_all, list_any}
+use Rattle.std.proofs.lemmas.List.{take_min, drop_min}
+use Rattle.std.proofs.lemmas.List.Recursion.{is_sum_by}
+use Rattle.weight.specs.Weight.{weigh, no_sum, reaches_one, zero_weight}
 use Rattle.threshold.specs.declared.Threshold.{Threshold}
-use Rattle.threshold.specs.declared.Judgement.{Judgement}
-use Rattle.threshold.specs.declared.Judgement.TheVariants.{Met, Short}
-use Rattle.threshold.specs.Threshold.{is_simple, sizes_of, weights_in, sum, runs, shape_of, at_most, well_formed, check_well_formed, sum_from, clauses_met, first_short, judged}
+use Rattle.threshold.specs.Threshold.{is_simple, sizes_of, weights_in, rest_zero, sum, runs, shape_of, at_most, well_formed, check_well_formed, sum_from, clauses_met, first_short, short, judged}
 use Rattle.threshold.specs.contracts.Threshold.{the_row}
 
 -- the element that an array of weights has past its end, as Rattle has it
@@ -35,15 +40,6 @@ no_weight = record { num = 0; den = 0 }
 -- from `good` for a parameter, from `ok` for a call's result
 pub weights_16 : (t : Threshold) (vs : List Val) → Is the_row t vs → length t.weights ≡ 16
 weights_16 t vs p = p.1.1.1.1.1.1.0.1.0.1
-
--- ---- how many weights there are
-pub sum-next : (xs : List ℕ) (x i : ℕ) → drop i xs ≡ x ∷ drop (i + 1) xs → sum (drop i xs) ≡ x + sum (drop (i + 1) xs)
-unfolding sum
-sum-next xs x i e = rw e
-
-pub sum-end : (xs : List ℕ) (i : ℕ) → length xs ≤ i → sum (drop i xs) ≡ 0
-unfolding sum
-sum-end xs i h = rw (drop_of_length-le xs h)
 
 -- ---- well formed is accepted without details
 clean_pick : (b : Bool) (x y : Answer) → Clean x → Clean y → Clean (pick b x y)
@@ -61,80 +57,9 @@ clean_form t keys =
     (clean_pick (eqb t.clauses 0) _ _ (clean_if true (refused 25 0 0) refl)
     (clean_pick (any (eqb 0) (sizes_of t)) _ _ (clean_if true (refused 26 0 0) refl) (clean_most (weights_in t) keys)))
 
-module _ (t : Threshold) (keys shape : ℕ) (is : shape ≡ shape_of t) where
-  pub shape_bad : (shape ≡ 0 → ⊥) → refused shape 0 0 ≡ check_well_formed t keys
-  unfolding check_well_formed
-  shape_bad ne = rw (← is) (sym (stopped (refused shape 0 0) (well_formed t keys ∷ []) ne))
-
-  pub shape_good : shape ≡ 0 → well_formed t keys ≡ check_well_formed t keys
-  unfolding check_well_formed
-  shape_good e = rw (← is) (last (well_formed t keys) (well_formed t keys) (clean_form t keys) refl ∙ sym (passed (refused shape 0 0) (well_formed t keys ∷ []) e))
-
--- ---- the sum of a clause: what is left of its run
-pub clause_next : (signed : ℕ → Bool) (s : Sum) (ws : List Weight) (k left : ℕ) (w : Weight) → drop k ws ≡ w ∷ drop (k + 1) ws → (left ≡ 0 → ⊥)
-    → sum_from signed (k + 1) (weigh (signed k) s w) (take (left - 1) (drop (k + 1) ws)) ≡ sum_from signed k s (take left (drop k ws))
-unfolding sum_from
-clause_next signed s ws k zero w e ne = absurd (ne refl)
-clause_next signed s ws k (suc left) w e ne = let l : suc left - 1 ≡ left = omega arith in rw (l, e)
-
-module _ (signed : ℕ → Bool) (s : Sum) (ws : List Weight) (k left : ℕ) where
-  pub clause_none : left ≡ 0 → s ≡ sum_from signed k s (take left (drop k ws))
-  unfolding sum_from
-  clause_none e = rw e
-
-  pub clause_end : length ws ≤ k → s ≡ sum_from signed k s (take left (drop k ws))
-  unfolding sum_from
-  clause_end h = rw (drop_of_length-le ws h, take-nil left)
-
--- ---- clause after clause: a run ends at the array's end at the latest
-abbrev pub cut : ℕ → ℕ
-cut end = pick (ltb end 16) end 16
-
-pub cut-16 : (end : ℕ) → cut end ≤ 16
-cut-16 end = by_test (ltb end 16) refl
-  where
-    by_test : (b : Bool) → ltb end 16 ≡ b → cut end ≤ 16
-    by_test true e = let l = ltb-true end 16 e in rw e (omega arith)
-    by_test false e = rw e (omega arith)
-
-module _ (ws : List Weight) (base size : ℕ) (h : length ws ≡ 16) (g : base ≤ 16) where
-  run_end : base + length (take size (drop base ws)) ≡ cut (base + size)
-  run_end = by_test (ltb (base + size) 16) refl
-    where
-      by_test : (b : Bool) → ltb (base + size) 16 ≡ b → base + length (take size (drop base ws)) ≡ cut (base + size)
-      by_test true e = let l = ltb-true (base + size) 16 e in rw e (simp (length-take, length-drop) (omega arith))
-      by_test false e = let l = ltb-false (base + size) 16 e in rw e (simp (length-take, length-drop) (omega arith))
-
-  run_rest : drop size (drop base ws) ≡ drop (cut (base + size)) ws
-  run_rest = by_test (ltb (base + size) 16) refl
-    where
-      by_test : (b : Bool) → ltb (base + size) 16 ≡ b → drop size (drop base ws) ≡ drop (cut (base + size)) ws
-      by_test true e = rw e (drop-drop size base ws)
-      by_test false e =
-          let l = ltb-false (base + size) 16 e in
-          rw (e, drop-drop size base ws, drop_of_length-le ws {i = base + size} (omega arith), drop_of_length-le ws {i = 16} (omega arith))
-
-module _ (signed : ℕ → Bool) (xs : List ℕ) (ws : List Weight) (i base size : ℕ) (e : drop i xs ≡ size ∷ drop (i + 1) xs) where
-  abbrev left : ℕ → ℕ → Judgement
-  left j b = first_short (j + 1) (clauses_met signed b (runs (drop j xs) (drop b ws)))
-
-  pub reached : length ws ≡ 16 → base ≤ 16 → reaches_one (sum_from signed base no_sum (take size (drop base ws))) ≡ true
-      → left (i + 1) (cut (base + size)) ≡ left i base
-  unfolding first_from clauses_met runs
-  reached h g r = rw (e, r, run_end ws base size h g, run_rest ws base size h g)
-
-  pub short : reaches_one (sum_from signed base no_sum (take size (drop base ws))) ≡ false → Short (i + 1) ≡ left i base
-  unfolding first_from clauses_met runs
-  short r = rw (e, r)
-
-pub all_reached : (signed : ℕ → Bool) (xs : List ℕ) (ws : List Weight) (i number base : ℕ) → length xs ≤ i
-    → Met ≡ first_short number (clauses_met signed base (runs (drop i xs) ws))
-unfolding first_from clauses_met runs
-all_reached signed xs ws i number base h = rw (drop_of_length-le xs h)
-
 -- ---- only the places below 16 matter
 module _ (f g : ℕ → Bool) (same : (k : ℕ) → k < 16 → f k ≡ g k) where
-  sum_same : (ws : List Weight) (k : ℕ) (s : Sum) → k + length ws ≤ 16 → sum_from f k s ws ≡ sum_from g k s ws
+  sum_same : (ws : List Weight) (k : ℕ) (s : Option Weight) → k + length ws ≤ 16 → sum_from f k s ws ≡ sum_from g k s ws
   unfolding sum_from
   sum_same [] k s h = refl
   sum_same (w ∷ ws) k s h = rw (same k (omega arith)) (sum_same ws (k + 1) (weigh (g k) s w) (omega arith))
@@ -150,3 +75,129 @@ module _ (f g : ℕ → Bool) (same : (k : ℕ) → k < 16 → f k ≡ g k) wher
   pub judged-same : (t : Threshold) (n : ℕ) → length t.weights ≤ 16 → judged t n f ≡ judged t n g
   unfolding judged
   judged-same t n h = rw (clauses_same (take t.clauses t.sizes) t.weights 0 (omega arith))
+
+-- ---- the sum of a clause, place by place
+module _ (signed : ℕ → Bool) (sum : Option Weight) (ws : List Weight) (base k : ℕ) where
+  pub sum_next : (w : Weight) → drop k ws ≡ w ∷ drop (k + 1) ws → sum_from signed (base + (k + 1)) (weigh (signed (base + k)) sum w) (drop (k + 1) ws) ≡ sum_from signed (base + k) sum (drop k ws)
+  unfolding sum_from
+  sum_next w e = let n : base + (k + 1) ≡ base + k + 1 = omega arith in rw (e, n)
+
+  pub sum_end : length ws ≤ k → sum_from signed (base + k) sum (drop k ws) ≡ sum
+  unfolding sum_from
+  sum_end h = rw (drop_of_length-le ws h)
+
+-- ---- clause after clause: a run ends at the last weight at the latest
+module _ (signed : ℕ → Bool) (ns : List ℕ) (rest clause : List Weight) (i base size : ℕ) (e : drop i ns ≡ size ∷ drop (i + 1) ns)
+    (f : clause ≡ take (min size (length rest)) rest) where
+  pub reached : (behind : List Weight) → behind ≡ drop (min size (length rest)) rest → reaches_one (sum_from signed base no_sum clause) ≡ true
+      → first_short (i + 1 + 1) (clauses_met signed (base + length clause) (runs (drop (i + 1) ns) behind)) ≡ first_short (i + 1) (clauses_met signed base (runs (drop i ns) rest))
+  unfolding first_from clauses_met runs
+  reached behind b r = rw (e, b, drop_min size rest, ← take_min size rest, ← f, r)
+
+  pub not_reached : reaches_one (sum_from signed base no_sum clause) ≡ false → short (i + 1) ≡ first_short (i + 1) (clauses_met signed base (runs (drop i ns) rest))
+  unfolding first_from clauses_met runs
+  not_reached r = rw (e, ← take_min size rest, ← f, r)
+
+pub all_reached : (signed : ℕ → Bool) (ns : List ℕ) (rest : List Weight) (i base : ℕ) → length ns ≤ i → Ok tt ≡ first_short (i + 1) (clauses_met signed base (runs (drop i ns) rest))
+unfolding first_from clauses_met runs
+all_reached signed ns rest i base h = rw (drop_of_length-le ns h)
+
+-- ---- the library's words are ours
+pub sum_is : (xs : List ℕ) → list_sum xs ≡ sum xs
+unfolding sum
+sum_is xs = sym (is_sum_by sum (λ x. x) refl (λ _ _. refl) xs)
+
+pub all_is : {A : Type 0} (f g : A → Bool) → ((x : A) → f x ≡ g x) → (xs : List A) → list_all f xs ≡ all g xs
+unfolding all
+all_is f g same [] = refl
+all_is f g same (x ∷ xs) = rw (same x, all_is f g same xs) (both_is (g x) (all g xs))
+  where
+    both_is : (a b : Bool) → (a && b) ≡ both a b
+    both_is true b = refl
+    both_is false b = refl
+
+pub any_is : {A : Type 0} (f g : A → Bool) → ((x : A) → f x ≡ g x) → (xs : List A) → list_any f xs ≡ any g xs
+unfolding any
+any_is f g same [] = refl
+any_is f g same (x ∷ xs) = rw (same x, any_is f g same xs) (either_is (g x) (any g xs))
+  where
+    either_is : (a b : Bool) → (a || b) ≡ either a b
+    either_is true b = refl
+    either_is false b = refl
+
+zero_is : (x : ℕ) → eqb x 0 ≡ eqb 0 x
+zero_is x = eqb_sym x 0
+
+pub all_zero : (xs : List ℕ) → list_all (λ x. eqb x 0) xs ≡ all (eqb 0) xs
+all_zero xs = all_is (λ x. eqb x 0) (eqb 0) zero_is xs
+
+pub any_zero : (xs : List ℕ) → list_any (λ x. eqb x 0) xs ≡ any (eqb 0) xs
+any_zero xs = any_is (λ x. eqb x 0) (eqb 0) zero_is xs
+
+pub all_weights : (ws : List Weight) → list_all zero_weight ws ≡ all zero_weight ws
+all_weights ws = all_is zero_weight zero_weight (λ w. refl) ws
+
+-- ---- 3 and 4 name no details
+pub no_details : (r : Refusal) → (answer_of r).number < 10 → answer_of r ≡ refused (answer_of r).number 0 0
+no_details Truncated h = refl
+no_details UnknownMark h = refl
+no_details BadField h = refl
+no_details TooMany h = refl
+no_details StateHeld h = refl
+no_details EvidenceRequired h = refl
+no_details DelegatorUnknown h = refl
+no_details NotInception h = refl
+no_details DuplicateInception h = refl
+no_details NonTransferableState h = absurd (omega (arith, h))
+no_details (NonZeroGenesisSn sn) h = absurd (omega (arith, h))
+no_details (BasicKeyCount keys) h = absurd (omega (arith, h))
+no_details BasicThreshold h = absurd (omega (arith, h))
+no_details BasicKeyMismatch h = absurd (omega (arith, h))
+no_details NonTransferableNextKeys h = absurd (omega (arith, h))
+no_details NonTransferableWitnesses h = absurd (omega (arith, h))
+no_details NonTransferableAnchors h = absurd (omega (arith, h))
+no_details (Duplicate list) h = absurd (omega (arith, h))
+no_details (TransferableWitness list) h = absurd (omega (arith, h))
+no_details CutAddOverlap h = absurd (omega (arith, h))
+no_details RemovalNotCurrent h = absurd (omega (arith, h))
+no_details AdditionAlreadyPresent h = absurd (omega (arith, h))
+no_details BelowMinimum h = absurd (omega (arith, h))
+no_details (ExceedsKeyCount required keys) h = absurd (omega (arith, h))
+no_details EmptyClauseList h = absurd (omega (arith, h))
+no_details EmptyClause h = absurd (omega (arith, h))
+no_details (MissingSignatures few) h = absurd (omega (arith, h))
+no_details (PriorNextThresholdUnsatisfied few) h = absurd (omega (arith, h))
+no_details NonTransferableCommitsNextKeys h = absurd (omega (arith, h))
+no_details (WitnessThresholdZeroWithWitnesses witnesses) h = absurd (omega (arith, h))
+no_details (WitnessThresholdExceeded toad witnesses) h = absurd (omega (arith, h))
+no_details (InsufficientWitnessReceipts valid required) h = absurd (omega (arith, h))
+no_details IdentifierMismatch h = absurd (omega (arith, h))
+no_details SequenceNumberOverflow h = absurd (omega (arith, h))
+no_details (OutOfOrder expected actual) h = absurd (omega (arith, h))
+no_details PriorDigestMismatch h = absurd (omega (arith, h))
+no_details InteractionOnEstablishmentOnly h = absurd (omega (arith, h))
+no_details (TooManyWitnesses count) h = absurd (omega (arith, h))
+no_details (Overflow witnesses) h = absurd (omega (arith, h))
+no_details (OutOfRange toad witnesses) h = absurd (omega (arith, h))
+no_details (NoRoom needed) h = absurd (omega (arith, h))
+
+few : (b : Bool) (x y : ℕ) → x < 10 → y < 10 → pick b x y < 10
+few true x y h g = h
+few false x y h g = g
+
+shapes : (a b c d e : Bool) → pick a (pick b 0 3) (pick c (pick d (pick e 0 3) 4) 3) < 10
+shapes a b c d e =
+    let three : (b : Bool) → pick b 0 3 < 10 = λ b. few b 0 3 (omega arith) (omega arith) in
+    few a (pick b 0 3) (pick c (pick d (pick e 0 3) 4) 3) (three b) (few c (pick d (pick e 0 3) 4) 3 (few d (pick e 0 3) 4 (three e) (omega arith)) (omega arith))
+
+shape_few : (t : Threshold) → shape_of t < 10
+unfolding shape_of
+shape_few t =
+    shapes (is_simple t) (both (eqb t.clauses 0) (rest_zero t 0 0)) (eqb t.tag 1) (both (leb t.clauses 16) (leb (weights_in t) 16))
+    (both (eqb t.simple 0) (rest_zero t t.clauses (weights_in t)))
+
+pub shape_stops : (t : Threshold) (keys : ℕ) (r : Refusal) → (answer_of r).number ≡ shape_of t → answer_of r ≡ check_well_formed t keys
+unfolding check_well_formed
+shape_stops t keys r e =
+    let n : (answer_of r).number < 10 = rw e (shape_few t) in
+    rw (← e, ← no_details r n) (sym (stopped (answer_of r) (well_formed t keys ∷ []) (eqb-false _ 0 (refuses r))))

@@ -1,16 +1,14 @@
 -- Thresholds, by document 01: "A threshold is tag 0 and a u64, or tag 1, a clause count byte, a size byte per clause, then
 -- the weights as numerator u64 and denominator u64."
-use Rattle.std.specs.Prelude.{ℕ, ◌+◌, List, [], ◌∷◌, Bool, true, false, not, Option, Some, None, eqb, leb, length, take, drop}
+use Rattle.std.specs.Prelude.{ℕ, ◌+◌, List, [], ◌∷◌, Bool, true, false, not, Option, Some, None, Result, Ok, Err, eqb, leb, length, take, drop}
 use Rattle.lists.specs.Lists.{pick, both, any, all, first_from}
 use Rattle.answer.specs.declared.Answer.{Answer}
 use Rattle.answer.specs.Answer.{refused, accepted, first_refusal}
 use Rattle.weight.specs.declared.Weight.{Weight}
-use Rattle.weight.specs.declared.Sum.{Sum}
 use Rattle.weight.specs.Weight.{weigh, no_sum, reaches_one, zero_weight}
 use Rattle.places.specs.Places.{among}
 use Rattle.threshold.specs.declared.Threshold.{Threshold}
-use Rattle.threshold.specs.declared.Judgement.{Judgement}
-use Rattle.threshold.specs.declared.Judgement.TheVariants.{Met, Short}
+use Rattle.threshold.specs.declared.Short.{Short}
 
 abbrev pub is_simple : Threshold → Bool
 is_simple t = eqb t.tag 0
@@ -69,7 +67,7 @@ check_well_formed t keys = first_refusal (refused (shape_of t) 0 0 ∷ well_form
 
 -- ---- The sum of a clause: weights at signed places are added, the others only looked at for a zero denominator.
 -- the clause's places are k, k + 1, ..
-unfoldable pub sum_from : (ℕ → Bool) → ℕ → Sum → List Weight → Sum
+unfoldable pub sum_from : (ℕ → Bool) → ℕ → Option Weight → List Weight → Option Weight
 sum_from signed k s [] = s
 sum_from signed k s (w ∷ ws) = sum_from signed (k + 1) (weigh (signed k) s w) ws
 
@@ -80,9 +78,15 @@ clauses_met signed base (c ∷ cs) = reaches_one (sum_from signed base no_sum c)
 
 -- ---- Document 02, request 2: "The threshold judgement shall answer with the first unsatisfied clause, counted from 1, or 0
 -- where there is none to name (satisfied, a simple threshold, no clauses, or a list not strictly rising)."
+abbrev pub Judgement : Type 0
+Judgement = Result (Unit {0}) Short
+
+abbrev pub short : ℕ → Judgement
+short k = Err (record { clause = k })
+
 abbrev pub short_at : Option ℕ → Judgement
-short_at (Some k) = Short k
-short_at None = Met
+short_at (Some k) = short k
+short_at None = Ok tt
 
 -- the first clause has this number
 abbrev pub first_short : ℕ → List Bool → Judgement
@@ -92,17 +96,17 @@ first_short number met = short_at (first_from not number met)
 unfoldable pub judged : Threshold → ℕ → (ℕ → Bool) → Judgement
 judged t count signed =
     pick (is_simple t)
-    (pick (leb t.simple count) Met (Short 0))
-    (pick (eqb t.clauses 0) (Short 0) (first_short 1 (clauses_met signed 0 (clauses_of t))))
+    (pick (leb t.simple count) (Ok tt) (short 0))
+    (pick (eqb t.clauses 0) (short 0) (first_short 1 (clauses_met signed 0 (clauses_of t))))
 
 abbrev pub is_met : Judgement → Bool
-is_met Met = true
-is_met (Short k) = false
+is_met (Ok done) = true
+is_met (Err s) = false
 
 -- the number that names the clause
 abbrev pub clause_named : Judgement → ℕ
-clause_named Met = 0
-clause_named (Short k) = k
+clause_named (Ok done) = 0
+clause_named (Err s) = s.clause
 
 -- a list without repeats is a set of places
 abbrev pub judged_by : Threshold → List ℕ → Judgement

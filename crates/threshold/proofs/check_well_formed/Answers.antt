@@ -1,9 +1,8 @@
-use mathlib.Core.Path.{◌∙◌}
-use Rattle.threshold.proofs.Laws.{shape_bad, shape_good}
+use Rattle.std.proofs.lemmas.Result.{err_from_is_err_and}
+use Rattle.threshold.proofs.Laws.{shape_stops}
 use Rattle.threshold.proofs.check_well_formed.Goals as goal
 
-pub returns-then-fault-ne0 : goal.returns-then-fault-ne0
-returns-then-fault-ne0 c = c.refuse.ensures ∙ shape_bad c.args.t c.args.keys c.shape-fault.result c.shape-fault.ensures c.if-fault-ne0.true
-
-pub returns : goal.returns
-returns c = c.form.ensures ∙ shape_good c.args.t c.args.keys c.shape-fault.result c.shape-fault.ensures c.if-fault-ne0.false
+pub returns-in_err-shape : goal.returns-in_err-shape
+returns-in_err-shape c =
+    let p = err_from_is_err_and c.from_residual.result c.from_residual.ensures.1 in
+    rw (p.1, p.2) (shape_stops c.args.t c.args.keys _ c.in_err-shape.ensures)

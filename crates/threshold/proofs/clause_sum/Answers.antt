@@ -1,32 +1,21 @@
-use mathlib.Core.Path.{◌≡◌, ◌∙◌, ap}
-use mathlib.Core.Bool.{Bool, false}
-use Prim.Native.Nat.{◌+◌, ◌<◌, ◌-◌}
-use native.Mathlib.Omega.{arith}
-use lib.ListN.{length, drop, take, get_or}
+use Rattle.std.proofs.Common.{arith, ◌≡◌, ◌∙◌, sym, ap, ◌+◌, get_or, Bool, false}
 use borrow.Author.Tests.{lt-ltb}
 use Rattle.lists.specs.Lists.{pick}
 use Rattle.lists.proofs.Walks.{head_of}
 use Rattle.places.specs.Places.{bit_at}
-use Rattle.weight.specs.declared.Sum.{Sum}
 use Rattle.weight.specs.Weight.{weigh}
-use Rattle.threshold.specs.Threshold.{sum_from}
-use Rattle.threshold.proofs.Laws.{no_weight, clause_next, clause_none, clause_end}
+use Rattle.threshold.proofs.Laws.{no_weight, sum_next, sum_end}
 use Rattle.threshold.proofs.clause_sum.Goals as goal
 
-pub returns-then-left-eq0 : goal.returns-then-left-eq0
-returns-then-left-eq0 c = clause_none (bit_at c.args.set) c.loop-k.s c.args.weights c.loop-k.k c.loop-k.left c.if-left-eq0.true ∙ c.loop-k.invariant.1
-
 pub loop-k-preserved : goal.loop-k-preserved
-loop-k-preserved c = let a = c.args in
+loop-k-preserved c =
+    let a = c.args in
     let k = c.loop-k.k in
-    let l : length a.weights ≡ 16 = c.loop-k.invariant.0 in
-    let lt : k < 16 = c.loop-k-test.true in
-    let h : c.has-signed.result ≡ bit_at a.set k = c.has-signed.ensures ∙ ap (λ (b : Bool). pick b (bit_at a.set k) false) (lt-ltb k 16 lt) in
-    let s : c.weigh-s.result ≡ weigh (bit_at a.set k) c.loop-k.s (get_or a.weights k no_weight) = c.weigh-s.ensures ∙ ap (λ (b : Bool). weigh b c.loop-k.s (get_or a.weights k no_weight)) h in (
-      l,
-      ap (λ (x : Sum). sum_from (bit_at a.set) (k + 1) x (take (c.loop-k.left - 1) (drop (k + 1) a.weights))) s
-          ∙ clause_next (bit_at a.set) c.loop-k.s a.weights k c.loop-k.left _ (head_of no_weight a.weights k (omega arith)) c.if-left-eq0.false ∙ c.loop-k.invariant.1,
-    )
+    let signed = bit_at a.set in
+    let w = get_or a.clause.now k no_weight in
+    let h : c.has-signed.result ≡ signed (a.base + k) = c.has-signed.ensures ∙ ap (λ (b : Bool). pick b (signed (a.base + k)) false) (lt-ltb (a.base + k) 16 (omega arith)) in
+    let e : c.weigh-sum.result ≡ weigh (signed (a.base + k)) c.loop-k.sum w = c.weigh-sum.ensures ∙ ap (λ (b : Bool). weigh b c.loop-k.sum w) h in
+    rw e (sum_next signed c.loop-k.sum a.clause.now a.base k w (head_of no_weight a.clause.now k c.loop-k-test.true) ∙ c.loop-k.invariant)
 
 pub returns : goal.returns
-returns c = clause_end (bit_at c.args.set) c.loop-k.s c.args.weights c.loop-k.k c.loop-k.left (omega arith) ∙ c.loop-k.invariant.1
+returns c = sym (sum_end (bit_at c.args.set) c.loop-k.sum c.args.clause.now c.args.base c.loop-k.k (omega arith)) ∙ c.loop-k.invariant
