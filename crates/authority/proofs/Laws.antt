@@ -56,9 +56,9 @@ unfolding quorum
 clean_quorum which t ps f = clean_unless (satisfied t ps) (too_few which t ps) f
 
 -- ---- receipts
-pub receipts-none : (toad : ℕ) (ps : List ℕ) → toad ≡ 0 → accepted ≡ receipts toad ps
+pub receipts_none : (toad : ℕ) (ps : List ℕ) → toad ≡ 0 → accepted ≡ receipts toad ps
 unfolding receipts
-receipts-none toad ps z = rw (eq-eqb toad 0 z)
+receipts_none toad ps z = rw (eq-eqb toad 0 z)
 
 module _ (toad n : ℕ) (ps : List ℕ) (e : n ≡ length ps) where
   pub receipts-enough : toad ≤ n → accepted ≡ receipts toad ps
@@ -87,22 +87,5 @@ module _ (keys next : ℕ) (l : Sigers) (c : Counted) (e : c ≡ counted_of keys
   pub witnessed_is : (w : Witnessing) → keys ≡ length (listed w.witnesses) → receipts w.toad (places_in c.verified) ≡ witnessed w l
   witnessed_is w k = rw (verified_is, k)
 
-  pub opens-short : (o : Commitment) (a : Authority) (x : Answer) → keys ≡ length (listed a.keys) → x ≡ quorum 27 a.threshold (places_in c.verified)
-      → (x.number ≡ 0 → ⊥) → x ≡ opens o a l
-  unfolding opens
-  opens-short o a x k f ne = let g = f ∙ verifies_is a k in g ∙ sym (stopped (verifies a l) _ (λ z. ne (ap (λ (y : Answer). y.number) g ∙ z)))
-
-  pub opens-signed : (o : Commitment) (a : Authority) (x : Answer) → keys ≡ length (listed a.keys) → next ≡ length (listed o.next)
-      → x ≡ quorum 27 a.threshold (places_in c.verified) → x.number ≡ 0 → quorum 28 o.threshold (places_in c.exposed) ≡ opens o a l
-  unfolding opens
-  opens-signed o a x k m f z =
-      let g = f ∙ verifies_is a k in
-      let y : Answer = exposed_by o.threshold (length (listed a.keys)) (length (listed o.next)) (signatures l) in
-      let h : quorum 28 o.threshold (places_in c.exposed) ≡ y = rw (exposed_is, k, m) in
-      let p : y ≡ first_refusal (y ∷ []) = last y y (clean_quorum 28 o.threshold _ refl) refl in
-      h ∙ p ∙ sym (passed (verifies a l) (y ∷ []) (sym (ap (λ (b : Answer). b.number) g) ∙ z))
-
--- a count's shortfall, named
-pub missing : (r : Result (Unit {0}) TooFew) (x : Result (Unit {0}) Refusal) → MatchResult r (λ _. x ≡ Ok tt) (λ e. x ≡ Err (MissingSignatures e)) → answered x ≡ counted_as 27 r
-missing (Ok tt) x e = rw e
-missing (Err few) x e = rw e
+  pub exposes_is : (o : Commitment) (n : ℕ) → keys ≡ n → next ≡ length (listed o.next) → quorum 28 o.threshold (places_in c.exposed) ≡ exposed_by o.threshold n (length (listed o.next)) (signatures l)
+  exposes_is o n k m = rw (exposed_is, k, m)

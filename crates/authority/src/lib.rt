@@ -40,6 +40,7 @@ fn used(l: Items) -> usize
 }
 
 // A set of places against a threshold; what is too few names how many there are, and the first clause that is short.
+#[tactic(auto, using(crate::proofs::Laws::quorum_met, crate::proofs::Laws::quorum_short))]
 pub fn quorum(t: Threshold, set: u16) -> Result<(), TooFew>
     ensures { (which : ℕ) → counted_as which result ≡ quorum which t (places_in set) }
 {
@@ -67,6 +68,7 @@ pub fn receipts(toad: u32, set: u16) -> Result<(), Refusal>
     })
 }
 
+#[tactic(auto, using(crate::proofs::Laws::verifies_is))]
 pub fn verify(a: Authority, l: Sigers) -> Result<(), Refusal>
     ensures { answered result ≡ verifies a l }
 {
@@ -75,6 +77,7 @@ pub fn verify(a: Authority, l: Sigers) -> Result<(), Refusal>
 }
 
 // The signatures that count for the revealed keys are the ones that may expose the old commitments.
+#[tactic(auto, using(answer::proofs::Results::refuses, crate::proofs::Laws::verifies_is, crate::proofs::Laws::exposes_is), unfolding(answer::specs::Answer::first_refusal, crate::specs::Authority::opens))]
 pub fn verify_opening(c: Commitment, revealed: Authority, l: Sigers) -> Result<(), Refusal>
     ensures { answered result ≡ opens c revealed l }
 {
@@ -84,6 +87,7 @@ pub fn verify_opening(c: Commitment, revealed: Authority, l: Sigers) -> Result<(
 }
 
 // Toad 0 reads no receipts.
+#[tactic(auto, using(crate::proofs::Laws::witnessed_is, crate::proofs::Laws::receipts_none))]
 pub fn receipted_by(w: Witnessing, l: Sigers) -> Result<(), Refusal>
     ensures { answered result ≡ witnessed w l }
 {
