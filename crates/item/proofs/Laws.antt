@@ -9,13 +9,10 @@ use lib.ListN.{replicate}
 use Rattle.std.specs.Cmp.Lexicographic.{pointwise}
 use Rattle.lists.proofs.Chains.{same_pointwise}
 use borrow.Author.Tests.{eqb-true, eq-eqb, ne_eqb}
-use Rattle.lists.specs.Lists.{either, same_numbers}
+use Rattle.lists.specs.Lists.{same_numbers}
 use Rattle.lists.proofs.Facts.{both_true, both_in, same-numbers, same_refl}
 use Rattle.item.specs.declared.Item.{Item}
-use Rattle.item.specs.declared.Class.{Class}
-use Rattle.item.specs.declared.Class.TheVariants.{NonTransferableKey, TransferableKey, Digest, Bad}
-use Rattle.item.specs.declared.Kind.TheVariants.{Prefix, Said}
-use Rattle.item.specs.Item.{basic_class, fits_class, same_item, zero_item, is_zero}
+use Rattle.item.specs.Item.{same_item, zero_item, is_zero}
 
 made : {n m : ℕ} {a b : List ℕ} → n ≡ m → a ≡ b → ◌≡◌ {A = Item} (record { code = n; raw = a }) (record { code = m; raw = b })
 made e f = cc

@@ -1,14 +1,16 @@
 -- What std's methods over lists say, in the words of our definitions. Assumes nothing.
 --     same_pointwise      `==` on arrays or slices of numbers
 --     all_is, any_is, first_is      the words that `all`, `any` and `position` of a chain are stated in
+--     contains_is      `contains` at numbers, whose clause `value` is stated in list_any
 --     used, unused      the items of a chain over an array with a count
 --     yields_all, yields_any, yields_first      what `all`, `any` and `position` return at the end of a chain, for an answer as
 --         yields_all test _ _ _ c.all.ensures.ran (used places count (cc) (cc)) (λ x b q k. search rules)
-use mathlib.Core.Path.{◌≡◌, refl, ap, ◌∙◌}
+use mathlib.Core.Path.{◌≡◌, refl, sym, ap, ◌∙◌}
 use mathlib.Core.List.{List, [], ◌∷◌}
 use mathlib.Core.Bool.{Bool, true, false, ◌&&◌, ◌||◌}
 use Prim.Native.Nat.{ℕ, ◌+◌}
 use lib.Dec.{eqb}
+use borrow.Author.Tests.{eqb-true, eqb-false, eq-eqb, ne_eqb}
 use Rattle.std.specs.Prelude.{Option, Some, None, cond}
 use Rattle.std.specs.Cmp.Lexicographic.{pointwise}
 use Rattle.std.specs.List.{FoldsTo, list_all, list_any, position, position_from}
@@ -65,6 +67,18 @@ module _ {A : Type 0} (f : A → Bool) where
 
   pub first_is : (xs : List A) → position f xs ≡ first_from f 0 xs
   first_is xs = position_from-zero f xs ∙ from_is 0 xs
+
+eqb_swap : (n m : ℕ) → eqb n m ≡ eqb m n
+eqb_swap n m = by_test (eqb n m) refl
+  where
+    by_test : (t : Bool) → eqb n m ≡ t → eqb n m ≡ eqb m n
+    by_test true e = e ∙ sym (eq-eqb m n (sym (eqb-true n m e)))
+    by_test false e = e ∙ sym (ne_eqb m n (λ h. eqb-false n m e (sym h)))
+
+pub contains_is : (x : ℕ) (xs : List ℕ) → list_any (λ y. eqb y x) xs ≡ any (eqb x) xs
+unfolding any
+contains_is x [] = refl
+contains_is x (y ∷ ys) = or_either (eqb y x) (list_any (λ z. eqb z x) ys) ∙ (rw (eqb_swap y x) (ap (either (eqb x y)) (contains_is x ys)))
 
 -- an array's used part, `places.iter().take(count)`, and the rest, `places.iter().skip(count)`
 pub used : {A : Type 0} (places : List A) (count : ℕ) {s : Take (Iter A)} → iter_rest (take_source s) ≡ places → take_count s ≡ count

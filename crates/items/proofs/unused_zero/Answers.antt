@@ -4,4 +4,4 @@ use Rattle.item.specs.Item.{is_zero}
 use Rattle.items.proofs.unused_zero.Goals as goal
 
 pub returns : goal.returns
-returns c = yields_all (is_zero) _ _ _ c.all.ensures.ran (unused c.args.l.at c.args.l.count (cc) (cc)) (λ x b q k. search rules)
+returns c = yields_all is_zero _ _ _ c.all.ensures.ran (unused c.args.l.at c.args.l.count (cc) (cc)) (λ x b q k. search rules)
