@@ -1,16 +1,15 @@
 -- All places below a key count, as a set and as a list. Assumes nothing.
 use mathlib.Core.Path.{◌≡◌, refl, sym, ◌∙◌, ap}
 use mathlib.Core.List.{◌∷◌, []}
-use mathlib.Core.Bool.{Bool, true, false}
+use mathlib.Core.Bool.{Bool, true}
 use Prim.Native.Nat.{ℕ, zero, suc, ◌<◌, ◌≤◌}
 use native.Mathlib.Omega.{arith}
 use lib.ListN.{length, length-append}
-use borrow.Author.Tests.{eq-eqb, ne_eqb, le-leb, lt-leb}
+use borrow.Author.Tests.{eq-eqb, le-leb}
 use Rattle.places.specs.Places.{chosen, among, set_of, bit_at, cut_to}
 use Rattle.places.proofs.Laws.{below, bit_set, cut-set, among-chosen}
 use Rattle.threshold.specs.declared.Threshold.{Threshold}
-use Rattle.threshold.specs.declared.Judgement.{Judgement}
-use Rattle.threshold.specs.Threshold.{shape_of, judged, is_met}
+use Rattle.threshold.specs.Threshold.{Judgement, shape_of, judged, is_met}
 use Rattle.threshold.proofs.Laws.{judged-same}
 use Rattle.attainable.specs.Attainable.{all_places, attained, attainable_by}
 
@@ -30,14 +29,6 @@ in_set keys k l =
     ∙ bit_set 16 (below keys (λ _. true)) k l ∙ sym (among-chosen keys (λ _. true) k)
 
 module _ (t : Threshold) (keys : ℕ) where
-  pub ill_shaped : (fault : ℕ) → fault ≡ shape_of t → (fault ≡ 0 → ⊥) → attained fault false ≡ attainable_by t keys
-  unfolding attainable_by
-  ill_shaped fault e ne = rw (← e, ne_eqb fault 0 ne)
-
-  pub too_many : shape_of t ≡ 0 → 16 < keys → attained 4 false ≡ attainable_by t keys
-  unfolding attainable_by
-  too_many e h = rw (eq-eqb (shape_of t) 0 e, lt-leb keys 16 h)
-
   pub by_all : (set : ℕ) (j : Judgement) (b : Bool) → length t.weights ≡ 16 → shape_of t ≡ 0 → keys ≤ 16
       → set ≡ cut_to keys 65535 → j ≡ judged t keys (bit_at set) → b ≡ is_met j → attained 0 b ≡ attainable_by t keys
   unfolding attainable_by

@@ -1,49 +1,52 @@
 -- Lists of places: rising ones, sorted ones without repeats, and their judgement by a set and a number. Assumes nothing.
---     rising-..            strictly rising, place by place
+--     rising_answer        strictly rising, as `is_sorted_by` answers
 --     sorted_among, sorted_rises, insert-length   what is in a sorted list, that it rises, and how long it is
---     count-..             how many numbers a list names, place by place
---     by-..                a judgement over a list, from its set and its number
+--     count_..             how many numbers a list names, place by place
+--     of_set, by_..        a judgement over a list, from its set and its number
 use mathlib.Core.Path.{◌≡◌, refl, sym, ◌∙◌, ap}
 use mathlib.Core.List.{List, ◌∷◌, []}
 use mathlib.Core.Bool.{Bool, true, false}
-use Prim.Native.Nat.{ℕ, ◌<◌, ◌≤◌, ◌+◌}
+use Prim.Native.Nat.{ℕ, zero, suc, ◌<◌, ◌≤◌, ◌+◌, ◌-◌}
+use native.Mathlib.Numerals.{add-one}
 use native.Mathlib.Omega.{arith}
 use lib.Dec.{eqb, ltb, leb}
-use lib.ListN.{length, drop, get_or, drop_of_length-le}
-use borrow.Author.Tests.{lt-ltb, le-ltb, ltb-true, ltb-false, eq-eqb, ne_eqb, eqb-true, eqb-false, le-leb, lt-leb}
+use lib.ListN.{length, take, drop, length-drop, get_or, drop_of_length-le}
+use lib.Seq.{take_all}
+use borrow.Author.Tests.{lt-ltb, le-ltb, ltb-true, ltb-false, eq-eqb, ne_eqb, eqb-true, eqb-false}
+use Rattle.std.specs.List.{IsAllAdjacentAnswer, list_any}
+use Rattle.std.proofs.lemmas.Grind.{common_steps}
 use Rattle.lists.specs.Lists.{pick, either, any}
-use Rattle.lists.proofs.Facts.{clash, both_true}
+use Rattle.lists.proofs.Facts.{clash, both_true, both_off}
 use Rattle.lists.proofs.Walks.{head_of}
 use Rattle.places.specs.Places.{among, set_of, bit_at}
-use Rattle.places.proofs.Laws.{bit_set}
+use Rattle.places.proofs.Laws.{bit_set, eqb_sym}
 use Rattle.threshold.specs.declared.Threshold.{Threshold}
-use Rattle.threshold.specs.declared.Judgement.{Judgement}
-use Rattle.threshold.specs.declared.Judgement.TheVariants.{Met, Short}
-use Rattle.threshold.specs.Threshold.{shape_of, judged, judged_by}
-use Rattle.threshold.proofs.Laws.{judged-same}
+use Rattle.threshold.specs.Threshold.{Judgement, shape_of, judged, judged_by}
+use Rattle.threshold.proofs.Laws.{any_is, judged-same}
 use Rattle.satisfied.specs.Satisfied.{rising_after, rising, insert, sorted_unique, satisfied_by_sorted_unique, satisfied_by}
 
 -- ---- strictly rising, place by place
-pub rising_none : (ps : List ℕ) → length ps ≡ 0 → true ≡ rising ps
-rising_none [] e = refl
-rising_none (x ∷ xs) e = absurd (omega (arith, e))
+rising_all : (ps : List ℕ) → ((k : ℕ) → suc k < length ps → get_or ps k 0 < get_or ps (suc k) 0) → rising ps ≡ true
+unfolding rising_after
+rising_all [] up = refl
+rising_all (x ∷ []) up = refl
+rising_all (x ∷ y ∷ ys) up =
+    let here : x < y = up 0 (omega arith) in
+    rw (lt-ltb x y here) (rising_all (y ∷ ys) (λ k l. up (suc k) (omega arith)))
 
-pub rising-start : (ps : List ℕ) → 0 < length ps → rising_after (get_or ps 0 0) (drop 1 ps) ≡ rising ps
-rising-start [] h = absurd (omega (arith, h))
-rising-start (x ∷ xs) h = refl
+falls_at : (ps : List ℕ) (k : ℕ) → suc k < length ps → get_or ps (suc k) 0 ≤ get_or ps k 0 → rising ps ≡ false
+unfolding rising_after
+falls_at [] k l h = absurd (omega arith)
+falls_at (x ∷ []) k l h = absurd (omega arith)
+falls_at (x ∷ y ∷ ys) zero l h = rw (le-ltb x y h)
+falls_at (x ∷ y ∷ ys) (suc k) l h = rw (falls_at (y ∷ ys) k (omega arith) h) (both_off (ltb x y))
 
-module _ (ps : List ℕ) (last i : ℕ) where
-  pub rising_stop : i < length ps → get_or ps i 0 ≤ last → rising_after last (drop i ps) ≡ false
-  unfolding rising_after
-  rising_stop h g = rw (head_of 0 ps i h, le-ltb last (get_or ps i 0) g)
-
-  pub rising-next : i < length ps → last < get_or ps i 0 → rising_after (get_or ps i 0) (drop (i + 1) ps) ≡ rising_after last (drop i ps)
-  unfolding rising_after
-  rising-next h g = rw (head_of 0 ps i h, lt-ltb last (get_or ps i 0) g)
-
-  pub rising-end : length ps ≤ i → rising_after last (drop i ps) ≡ true
-  unfolding rising_after
-  rising-end h = rw (drop_of_length-le ps h)
+-- what `is_sorted_by` answers
+pub rising_answer : (ps : List ℕ) (r : Bool) → IsAllAdjacentAnswer (λ x y b. b ≡ ltb x y) ps r → r ≡ rising ps
+rising_answer ps true h = sym (rising_all ps (λ k l. let n : k + 1 ≡ suc k = add-one k in ltb-true _ _ (rw n at (sym (h k 0 (omega arith))))))
+rising_answer ps false h =
+    let n : h.0 + 1 ≡ suc h.0 = add-one h.0 in
+    sym (falls_at ps h.0 (omega (arith, h.1)) (ltb-false _ _ (rw n at (sym (h.2 0)))))
 
 -- ---- a number put into a list: first, already there, or further on
 module _ (x y : ℕ) (ys : List ℕ) where
@@ -94,7 +97,7 @@ insert-among k x (y ∷ ys) =
     (λ h. twice (eqb k x) (eqb k y) (among ys k) (ap (eqb k) h))
     (λ h. ap (either (eqb k y)) on ∙ swap (eqb k y) (eqb k x) (among ys k))
 
-pub sorted_among : (ps : List ℕ) (k : ℕ) → among (sorted_unique ps) k ≡ among ps k
+sorted_among : (ps : List ℕ) (k : ℕ) → among (sorted_unique ps) k ≡ among ps k
 unfolding any sorted_unique
 sorted_among [] k = refl
 sorted_among (p ∷ ps) k = insert-among k p (sorted_unique ps) ∙ ap (either (eqb k p)) (sorted_among ps k)
@@ -136,7 +139,7 @@ unfolding rising_after
 tail_rises y [] e = refl
 tail_rises y (z ∷ zs) e = (both_true (ltb y z) (rising_after z zs) e).1
 
-pub insert-length : (x : ℕ) (ys : List ℕ) → rising ys ≡ true → length (insert x ys) ≡ length ys + pick (among ys x) 0 1
+insert-length : (x : ℕ) (ys : List ℕ) → rising ys ≡ true → length (insert x ys) ≡ length ys + pick (among ys x) 0 1
 unfolding any insert
 insert-length x [] e = refl
 insert-length x (y ∷ ys) e =
@@ -156,32 +159,34 @@ named_next ps x i e =
     let r = drop (i + 1) ps in
     rw (e, ← sorted_among r x) (insert-length x (sorted_unique r) (sorted_rises r))
 
-pub count-start : (ps : List ℕ) (need : ℕ) → leb need (0 + named ps) ≡ leb need (named ps)
-count-start ps need = ap (leb need) (omega arith)
+-- a slice from a place on is the rest
+take_rest : (ps : List ℕ) (i : ℕ) → take (length ps - i) (drop i ps) ≡ drop i ps
+take_rest ps i = take_all (length ps - i) (drop i ps) (omega (arith, length-drop i ps))
 
-module _ (ps : List ℕ) (need count i : ℕ) where
-  pub count-again : i < length ps → among (drop (i + 1) ps) (get_or ps i 0) ≡ true → leb need (count + named (drop (i + 1) ps)) ≡ leb need (count + named (drop i ps))
-  count-again h e = let n = named_next ps (get_or ps i 0) i (head_of 0 ps i h) in ap (leb need) (omega (arith, rw e at n))
+pub asked : (p : ℕ → Bool) (ps : List ℕ) (i : ℕ) → list_any p (take (length ps - i) (drop i ps)) ≡ list_any p (drop i ps)
+asked p ps i = ap (list_any p) (take_rest ps i)
 
-  pub count_new : i < length ps → among (drop (i + 1) ps) (get_or ps i 0) ≡ false → leb need (count + 1 + named (drop (i + 1) ps)) ≡ leb need (count + named (drop i ps))
-  count_new h e = let n = named_next ps (get_or ps i 0) i (head_of 0 ps i h) in ap (leb need) (omega (arith, rw e at n))
+-- the code asks whether the number is named again behind its place
+among_is : (ps : List ℕ) (x : ℕ) → list_any (λ y. eqb y x) ps ≡ among ps x
+among_is ps x = any_is (λ y. eqb y x) (eqb x) (λ y. eqb_sym y x) ps
 
-  pub count-enough : need ≤ count → leb need (count + named (drop i ps)) ≡ true
-  count-enough h = le-leb need (count + named (drop i ps)) (omega arith)
+module _ (ps : List ℕ) (left i : ℕ) (h : i < length ps) where
+  pub count_again : list_any (λ y. eqb y (get_or ps i 0)) (drop (i + 1) ps) ≡ true → leb left (named (drop (i + 1) ps)) ≡ leb left (named (drop i ps))
+  count_again e =
+      let n = named_next ps (get_or ps i 0) i (head_of 0 ps i h) in
+      ap (leb left) (omega (arith, rw (sym (among_is (drop (i + 1) ps) (get_or ps i 0)) ∙ e) at n))
 
-  pub count-end : length ps ≤ i → count < need → leb need (count + named (drop i ps)) ≡ false
-  unfolding sorted_unique
-  count-end h l = rw (drop_of_length-le ps h) (lt-leb need (count + 0) (omega arith))
+  pub count_new : (left ≡ 0 → ⊥) → list_any (λ y. eqb y (get_or ps i 0)) (drop (i + 1) ps) ≡ false → leb (left - 1) (named (drop (i + 1) ps)) ≡ leb left (named (drop i ps))
+  count_new ne e =
+      let n = named_next ps (get_or ps i 0) i (head_of 0 ps i h) in
+      let m : named (drop i ps) ≡ named (drop (i + 1) ps) + 1 = omega (arith, rw (sym (among_is (drop (i + 1) ps) (get_or ps i 0)) ∙ e) at n) in
+      rw m (grind (arith, common_steps))
+
+pub count_end : (ps : List ℕ) (left i : ℕ) → length ps ≤ i → eqb left 0 ≡ leb left (named (drop i ps))
+unfolding sorted_unique
+count_end ps left i h = rw (drop_of_length-le ps h) (grind (arith, common_steps))
 
 -- ---- a judgement over a list
-pub by_shape : (t : Threshold) (ps : List ℕ) → (shape_of t ≡ 0 → ⊥) → Short 0 ≡ satisfied_by_sorted_unique t ps
-unfolding satisfied_by_sorted_unique
-by_shape t ps g = rw (ne_eqb (shape_of t) 0 g)
-
-pub by_fall : (t : Threshold) (ps : List ℕ) → shape_of t ≡ 0 → rising ps ≡ false → Short 0 ≡ satisfied_by_sorted_unique t ps
-unfolding satisfied_by_sorted_unique
-by_fall t ps g r = rw (eq-eqb (shape_of t) 0 g, r)
-
 pub by_list : (t : Threshold) (ps : List ℕ) → shape_of t ≡ 0 → rising ps ≡ true → judged_by t ps ≡ satisfied_by_sorted_unique t ps
 unfolding satisfied_by_sorted_unique
 by_list t ps g r = rw (eq-eqb (shape_of t) 0 g, r)
@@ -202,8 +207,3 @@ module _ (t : Threshold) (ps : List ℕ) where
       let sorted : judged t 0 (among ps) ≡ judged t 0 (among (sorted_unique ps)) =
       judged-same (among ps) (among (sorted_unique ps)) (λ k _. sym (sorted_among ps k)) t 0 (omega (arith, h)) in
       sorted ∙ any-number 0 (named ps) (among (sorted_unique ps)) (ne_eqb t.tag 0 ne) ∙ by_list t (sorted_unique ps) g (sorted_rises ps)
-
-  -- a simple one asks only that
-  pub by_number : (b : Bool) → shape_of t ≡ 0 → t.tag ≡ 0 → leb t.simple (named ps) ≡ b → pick b Met (Short 0) ≡ satisfied_by t ps
-  unfolding satisfied_by_sorted_unique judged
-  by_number b g z e = rw (eq-eqb (shape_of t) 0 g, sorted_rises ps, eq-eqb t.tag 0 z, e)

@@ -4,9 +4,7 @@
 use Rattle.std.specs.Prelude.{ℕ, List, [], ◌∷◌, Bool, true, eqb, ltb}
 use Rattle.lists.specs.Lists.{pick, both}
 use Rattle.threshold.specs.declared.Threshold.{Threshold}
-use Rattle.threshold.specs.declared.Judgement.{Judgement}
-use Rattle.threshold.specs.declared.Judgement.TheVariants.{Short}
-use Rattle.threshold.specs.Threshold.{shape_of, judged_by}
+use Rattle.threshold.specs.Threshold.{Judgement, short, shape_of, judged_by}
 
 unfoldable pub rising_after : ℕ → List ℕ → Bool
 rising_after x [] = true
@@ -26,7 +24,7 @@ sorted_unique [] = []
 sorted_unique (x ∷ xs) = insert x (sorted_unique xs)
 
 unfoldable pub satisfied_by_sorted_unique : Threshold → List ℕ → Judgement
-satisfied_by_sorted_unique t ps = pick (both (eqb (shape_of t) 0) (rising ps)) (judged_by t ps) (Short 0)
+satisfied_by_sorted_unique t ps = pick (both (eqb (shape_of t) 0) (rising ps)) (judged_by t ps) (short 0)
 
 abbrev pub satisfied_by : Threshold → List ℕ → Judgement
 satisfied_by t ps = satisfied_by_sorted_unique t (sorted_unique ps)

@@ -1,9 +1,11 @@
 -- Thresholds: the laws that the loops cite, and what a judgement depends on. Assumes nothing.
 --     weights_16           who owns a threshold knows that it has 16 weights
 --     clean_form           well formed is accepted without details
---     sum-.., clause-..    how many weights there are, and the sum of a clause, place by place
---     reached, short, all_reached   clause after clause
 --     judged-same          only the places below 16 matter to a judgement
+--     sum_next, sum_end    the sum of a clause, place by place
+--     reached, not_reached, all_reached   clause after clause
+--     met_is, .._is, .._zero   the library's words for a test of a result, a sum, and a test along a list
+--     no_details, shape_stops   a refusal of a bad shape names no details
 use mathlib.Core.Path.{◌≡◌, refl, sym}
 use mathlib.Core.List.{List, ◌∷◌, []}
 use mathlib.Core.Bool.{Bool, true, false}
@@ -24,13 +26,14 @@ use Rattle.answer.proofs.Results.{refuses}
 use Rattle.answer.proofs.Laws.{stopped, Clean, clean_unless, clean_if}
 use Rattle.places.proofs.Laws.{eqb_sym}
 use Rattle.weight.specs.declared.Weight.{Weight}
-use Rattle.std.specs.Prelude.{Option, Ok, ◌&&◌, ◌||◌, min}
+use Rattle.std.specs.Result.{is_ok}
+use Rattle.std.specs.Prelude.{Option, Ok, Err, ◌&&◌, ◌||◌, min}
 use Rattle.std.specs.List.{sum as list_sum, list_all, list_any}
 use Rattle.std.proofs.lemmas.List.{take_min, drop_min}
 use Rattle.std.proofs.lemmas.List.Recursion.{is_sum_by}
 use Rattle.weight.specs.Weight.{weigh, no_sum, reaches_one, zero_weight}
 use Rattle.threshold.specs.declared.Threshold.{Threshold}
-use Rattle.threshold.specs.Threshold.{is_simple, sizes_of, weights_in, rest_zero, sum, runs, shape_of, at_most, well_formed, check_well_formed, sum_from, clauses_met, first_short, short, judged}
+use Rattle.threshold.specs.Threshold.{Judgement, is_met, is_simple, sizes_of, weights_in, rest_zero, sum, runs, shape_of, at_most, well_formed, check_well_formed, sum_from, clauses_met, first_short, short, judged}
 use Rattle.threshold.specs.contracts.Threshold.{the_row}
 
 -- the element that an array of weights has past its end, as Rattle has it
@@ -103,6 +106,10 @@ unfolding first_from clauses_met runs
 all_reached signed ns rest i base h = rw (drop_of_length-le ns h)
 
 -- ---- the library's words are ours
+pub met_is : (j : Judgement) → is_ok j ≡ is_met j
+met_is (Ok done) = refl
+met_is (Err s) = refl
+
 pub sum_is : (xs : List ℕ) → list_sum xs ≡ sum xs
 unfolding sum
 sum_is xs = sym (is_sum_by sum (λ x. x) refl (λ _ _. refl) xs)

@@ -42,7 +42,7 @@ pub fn weights_in(sizes: [u8; 16], n: usize) -> usize
     used(&sizes, n).iter().map(|size| usize::from(*size)).sum()
 }
 
-// A place that is not used is not zero: a number, or what stands from the clause s and the weight w on.
+// 3 where a place that is not used is not zero: a number, or what stands from the clause s and the weight w on.
 fn unused(t: Threshold, number: u64, s: usize, w: usize) -> Result<(), Refusal>
     ensures { fault_of result ≡ pick (both (eqb number 0) (rest_zero t s w)) 0 3 }
 {

@@ -1,14 +1,11 @@
-use mathlib.Core.Path.{sym, ◌∙◌}
-use Rattle.threshold.proofs.Laws.{weights_16}
-use Rattle.attainable.proofs.Laws.{ill_shaped, too_many, by_all}
+use Rattle.std.proofs.Common.{arith, ◌≡◌, ◌∙◌}
+use Rattle.std.proofs.lemmas.Grind.{common_steps}
+use Rattle.threshold.specs.Threshold.{shape_of}
+use Rattle.threshold.proofs.Laws.{weights_16, met_is}
+use Rattle.attainable.proofs.Laws.{by_all}
 use Rattle.attainable.proofs.attainable.Goals as goal
 
-pub returns-then-fault-ne0 : goal.returns-then-fault-ne0
-returns-then-fault-ne0 c = let a = c.args in ill_shaped a.t a.keys _ c.shape-fault.ensures c.if-fault-ne0.true
-
-pub returns-then-keys-gt16 : goal.returns-then-keys-gt16
-returns-then-keys-gt16 c = let a = c.args in too_many a.t a.keys (sym c.shape-fault.ensures ∙ c.if-fault-ne0.false) c.if-keys-gt16.true
-
 pub returns : goal.returns
-returns c = by_all c.args.t c.args.keys _ _ _ (weights_16 c.args.t _ c.well_formed.0) (sym c.shape-fault.ensures ∙ c.if-fault-ne0.false) c.if-keys-gt16.false
-    c.cut_to-set.ensures c.judge-j.ensures c.is_met.ensures
+returns c =
+    let g : shape_of c.args.t ≡ 0 = grind (arith, common_steps) in
+    by_all c.args.t c.args.keys _ _ _ (weights_16 c.args.t _ c.well_formed.0) g (omega arith) c.cut_to-all.ensures c.judge.ensures (c.is_ok.ensures.value ∙ met_is _)
