@@ -63,7 +63,7 @@ pub fn scan(s: &[u8], at: usize) -> Result<(Listing, usize), Refusal>
 }
 
 // Compared to the end, many bytes at a time: where two first differ makes no difference to the time. A `for`, since this is the hot loop of the device's call:
-// `==` on the slices, which leaves early and is called apart, took 5.5 ns where this takes 4.4, and a `zip` with a `fold` 4.9.
+// `==` on the slices leaves early and is a call apart, and took 5.5 ns where this takes 4.4 (2.8 where the first 4 bytes differ); a `zip` with a `fold` took 4.9.
 fn same_raw(s: &[u8], p: usize, q: usize) -> bool
     requires p_in_bounds { p + 64 ≤ length s.now }
     requires q_in_bounds { q + 64 ≤ length s.now }
