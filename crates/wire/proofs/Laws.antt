@@ -1,8 +1,9 @@
 -- Signatures in place: which have their shape, when two are copies, and the list by its places. Assumes nothing.
---     shaped-..     each way through the test of a signature's shape
---     same-..       each way through the comparison of two
---     firsts-.., list-..   the first ones with one signature more, and a step of the search for a copy among them
---     next-..       the sets of places with one signature more
+--     shaped_.., place_..   a signature's room, and its place or the refusal
+--     run_.., same_..       one byte more of a comparison, its end, and two told apart by the first raw byte
+--     firsts_.., list_..    the first ones with one signature more, and a step of the search for a copy among them
+--     next_.., count_..     the sets of places with one signature more, and those of none and of all
+--     scanning, counting    what the check finds the answers with
 --     sigers_values   scanning a list and taking the signatures at its places is reading it
 use mathlib.Core.Path.{◌≡◌, refl, sym, ap, ◌∙◌}
 use mathlib.Core.Bool.{Bool, true, false, ◌&&◌}
@@ -22,7 +23,7 @@ use Rattle.format.specs.Fields.{flag_at, ondex_at, siger_at, sigers_at}
 use Rattle.cursor.specs.declared.Listing.{Listing}
 use Rattle.cursor.specs.Cursor.{raw_of}
 use Rattle.cursor.specs.Spans.{mapped, list_of}
-use Rattle.cursor.proofs.Laws.{Agree, had, refused, num_got, byte_got, byte-short, raw_got, list-none, list-next, many_over, many_short, many_got, span_values}
+use Rattle.cursor.proofs.Laws.{span_short, span_many, span_bad, span_got, runs_stop, runs-end, Agree, had, refused, num_got, byte_got, byte-short, raw_got, list-none, list-next, many_over, many_short, many_got, span_values}
 use Rattle.verification.specs.declared.Siger.{Siger}
 use Rattle.verification.specs.declared.Counted.{Counted}
 use Rattle.verification.specs.declared.Claim.{Claim}
@@ -34,9 +35,9 @@ use Rattle.wire.specs.Wire.{word_of, siger_of, sigers_of, firsts_from, shaped_at
 
 -- ---- shape
 module _ (s : List ℕ) (at : ℕ) where
-  pub shaped-short : length s < at + 76 → shaped_at s at ≡ false
+  pub shaped_short : length s < at + 76 → shaped_at s at ≡ false
   unfolding shaped_at
-  shaped-short h = rw (lt-leb _ _ h)
+  shaped_short h = rw (lt-leb _ _ h)
 
   pub shaped_room : shaped_at s at ≡ true → at + 76 ≤ length s
   unfolding shaped_at
@@ -49,6 +50,9 @@ module _ (s : List ℕ) (at : ℕ) where
   pub place_bad : shaped_at s at ≡ false → place_at s at ≡ bad 3
   unfolding place_at
   place_bad e = rw e
+
+-- what a scan asks for
+pub ruleset scanning = (span_short, span_many, span_bad, span_got, runs_stop, runs-end, shaped_room, place_bad)
 
 -- ---- comparison
 -- n bytes at each of two places, as a loop compares them: what is left after k
@@ -85,9 +89,6 @@ pub other_too : (a b : Bool) → b ≡ false → both a b ≡ false
 other_too a b e = rw (e, both_off a)
 
 module _ (s : List ℕ) (p q : ℕ) (hp : p + 76 ≤ length s) (hq : q + 76 ≤ length s) where
-  abbrev Raw : Bool → Type 0
-  Raw b = same_numbers (take 64 (drop (p + 10) s)) (take 64 (drop (q + 10) s)) ≡ b
-
   abbrev wire : Bool
   wire = same_wire (siger_of s p) (siger_of s q)
 
@@ -102,7 +103,7 @@ module _ (s : List ℕ) (p q : ℕ) (hp : p + 76 ≤ length s) (hq : q + 76 ≤ 
   unfolding same_wire siger_of
   wire_is = rw (raw_got 64 s (p + 10) (omega arith), raw_got 64 s (q + 10) (omega arith))
 
-  pub same-raw : Raw false → wire ≡ false
+  same-raw : same_numbers (take 64 (drop (p + 10) s)) (take 64 (drop (q + 10) s)) ≡ false → wire ≡ false
   same-raw e = wire_is ∙ rw (e, both_off (eqb (word_of s (p + 6)) (word_of s (q + 6))), both_off (same_flag _ _), both_off (eqb (word_of s (p + 1)) _), both_off)
 
   -- told apart by the first raw byte
@@ -177,6 +178,9 @@ module _ (keys next : ℕ) (s : List ℕ) (at : ℕ) where
 
     pub count_all : (i : ℕ) (c : Counted) → n ≤ 48 → at + n * 76 ≤ length s → i ≡ n → c ≡ counted i → c ≡ counted_of keys next (sigers_of s n at)
     count_all i c h k d e = rw (many_got (siger_of s) 76 48 s n at h k, ← d) e
+
+-- what counting asks for
+pub ruleset counting = (count_none, count_over, count_short, count_all, next_copy, firsts_none, firsts_kept)
 
 -- ---- by values: each field in turn, had with its value and the place behind it
 module _ (s : List ℕ) where
@@ -291,7 +295,7 @@ module _ (s : List ℕ) where
           (tests h (leb (get_or s (at + 5) 0) 1) (either (eqb (get_or s (at + 5) 0) 1) (eqb (word_of s (at + 6)) 0)) (leb (get_or s (at + 74) 0) 1) (leb (get_or s (at + 75) 0) 1))
       by_room false e =
           let h = leb-false (at + 76) (length s) e in
-          refused 3 (place_bad s at (shaped-short s at h)) (siger-short at h)
+          refused 3 (place_bad s at (shaped_short s at h)) (siger-short at h)
 
   packs : {A B : Type 0} (f : A → B) (x : Parse Listing) (v : Listing → A) → mapped (λ (m : Listing). f (v m)) x ≡ bind (mapped v x) (λ a q. got (f a) q)
   packs f (got m q) v = refl

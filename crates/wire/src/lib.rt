@@ -41,7 +41,7 @@ fn shaped(s: &[u8], at: usize) -> bool
 }
 
 // A count byte of at most 48, and as many signatures, each whole and of its classes: where they stand, and the place behind the last.
-#[tactic(auto, using(cursor::proofs::Laws::span_short, cursor::proofs::Laws::span_many, cursor::proofs::Laws::span_bad, cursor::proofs::Laws::runs_stop, crate::proofs::Laws::shaped_room, crate::proofs::Laws::place_bad,))]
+#[tactic(auto, using(crate::proofs::Laws::scanning))]
 pub fn scan(s: &[u8], at: usize) -> Result<(Listing, usize), Refusal>
     ensures { scanned result ≡ sigers_span s.now at }
 {
@@ -62,7 +62,8 @@ pub fn scan(s: &[u8], at: usize) -> Result<(Listing, usize), Refusal>
     Ok((Listing { count, first }, next))
 }
 
-// Compared to the end, many bytes at a time: where two first differ makes no difference to the time.
+// Compared to the end, many bytes at a time: where two first differ makes no difference to the time. A `for`, since this is the hot loop of the device's call:
+// `==` on the slices leaves early and is a call apart, and took 5.5 ns where this takes 4.4 (2.8 where the first 4 bytes differ); a `zip` with a `fold` took 4.9.
 fn same_raw(s: &[u8], p: usize, q: usize) -> bool
     requires p_in_bounds { p + 64 ≤ length s.now }
     requires q_in_bounds { q + 64 ≤ length s.now }
@@ -132,7 +133,7 @@ fn claim_at(s: &[u8], p: usize) -> Claim
 }
 
 // The places that a list's signatures speak for; none where they are more than 48 or the bytes run out.
-#[tactic(auto, using(crate::proofs::Laws::count_none, crate::proofs::Laws::count_over, crate::proofs::Laws::count_short, crate::proofs::Laws::count_all, crate::proofs::Laws::next_copy, crate::proofs::Laws::firsts_none, crate::proofs::Laws::firsts_kept,))]
+#[tactic(auto, using(crate::proofs::Laws::counting))]
 pub fn count(s: &[u8], l: Listing, keys: usize, next: usize) -> Counted
     ensures { result ≡ counted_of keys next (sigers_of s.now l.count l.first) }
 {

@@ -1,6 +1,5 @@
 use mathlib.Core.Path.{sym, ◌∙◌}
-use native.Mathlib.Omega.{arith}
-use Rattle.cursor.proofs.Laws.{runs_more, runs-end, span_got}
+use Rattle.cursor.proofs.Laws.{runs_more}
 use Rattle.wire.specs.Wire.{place_at}
 use Rattle.wire.proofs.Laws.{place_got}
 use Rattle.wire.proofs.scan.Goals as goal
@@ -9,8 +8,3 @@ pub loop-preserved : goal.loop-preserved
 loop-preserved c =
     let e = place_got c.args.s.now c.loop.next (sym c.shaped.ensures ∙ c.if-not-shaped.false) in
     runs_more (place_at c.args.s.now) _ c.loop.counter c.loop.next _ _ _ c.loop-test.true e c.loop.invariant
-
-pub returns : goal.returns
-returns c =
-    let e = runs-end (place_at c.args.s.now) _ c.loop.counter c.loop.next _ c.loop-test.false c.loop.invariant in
-    sym (span_got (place_at c.args.s.now) 48 c.args.s.now c.args.at _ _ _ (sym c.in-Some.ensures) (omega arith) e)
