@@ -15,6 +15,7 @@ use lib.Dec.{eqb, ltb, leb}
 use lib.ListN.{length, length-take, get_or, take, drop}
 use lib.Seq.{take-suc}
 use borrow.Author.Tests.{eqb-true, leb-true}
+use Rattle.std.proofs.lemmas.List.{get_or-take}
 use Rattle.std.specs.Prelude.{nat_eq}
 use Rattle.std.specs.Cmp.Lexicographic.{pointwise}
 use Rattle.std.specs.List.{list_all}
@@ -202,6 +203,52 @@ module _ (xs : List Siger) (i set : ℕ) (e : set ≡ firsts_in xs i) where
     pub list_other : i ≤ 64 → any (same_wire x) (take j xs) ≡ false → both (has_first set j) (same_wire x (get_or xs j blank)) ≡ false
         → any (same_wire x) (take (j + 1) xs) ≡ false
     list_other w d f = no_copy same_wire (λ p. get_or xs p blank) (λ p. take p xs) wire_trans (length xs) (one_further xs) x i j h g w d (rw e at f)
+
+-- ---- one round of the walk over the first m of an array, as the code reads them: the element at i, and those before it
+module _ (xs : List Siger) (m i set : ℕ) (short : length xs ≤ 48) (in_List : i < length (take m xs)) (e : set ≡ firsts_in xs i) where
+  abbrev at_i : Siger
+  at_i = get_or (take m xs) i blank
+
+  abbrev pub copies : ℕ → Bool
+  copies j = both (has_first set j) (same_wire at_i (get_or (take i xs) j blank))
+
+  in_list : i < length xs
+  in_list = omega (arith, length-take m xs)
+
+  is_at : at_i ≡ get_or xs i blank
+  is_at = let h : i < m = omega (arith, length-take m xs) in get_or-take m xs i blank h
+
+  copies_at : (j : ℕ) → j < length (take i xs) → (b : Bool) → copies j ≡ b → both (has_first set j) (same_wire (get_or xs i blank) (get_or xs j blank)) ≡ b
+  copies_at j h b f =
+      let k : j < i = omega (arith, length-take i xs) in
+      let g : get_or (take i xs) j blank ≡ get_or xs j blank = get_or-take i xs j blank k in
+      rw (is_at, g) at f
+
+  pub walk_copy : (j : ℕ) → j < length (take i xs) → copies j ≡ true → any (same_wire (get_or xs i blank)) (take i xs) ≡ true
+  walk_copy j h f =
+      let k : j < i = omega (arith, length-take i xs) in
+      let w : i < length xs = in_list in
+      list_copy xs i set e (get_or xs i blank) j k (omega arith) (copies_at j h true f)
+
+  pub walk_other : (j : ℕ) → j < length (take i xs) → copies j ≡ false → any (same_wire (get_or xs i blank)) (take j xs) ≡ false
+      → any (same_wire (get_or xs i blank)) (take (j + 1) xs) ≡ false
+  walk_other j h f d =
+      let k : j < i = omega (arith, length-take i xs) in
+      let w : i < length xs = in_list in
+      list_other xs i set e (get_or xs i blank) j k (omega arith) (omega arith) d (copies_at j h false f)
+
+  pub walk_kept : (keys next : ℕ) (c : Counted) → c ≡ counted_of keys next (take i xs) → any (same_wire (get_or xs i blank)) (take i xs) ≡ true
+      → (c ≡ counted_of keys next (take (i + 1) xs)) × (set ≡ firsts_in xs (i + 1))
+  walk_kept keys next c g f = (next_copy keys next xs i c in_list g f, firsts_kept xs i set e f)
+
+  pub walk_more : (keys next : ℕ) (c : Counted) (j : ℕ) → c ≡ counted_of keys next (take i xs) → length (take i xs) ≤ j → j ≤ length (take i xs)
+      → any (same_wire (get_or xs i blank)) (take j xs) ≡ false
+      → (counted_with keys next c at_i ≡ counted_of keys next (take (i + 1) xs)) × (with_first set i ≡ firsts_in xs (i + 1))
+  walk_more keys next c j g h k f =
+      let w : i < length xs = in_list in
+      let n : j ≡ i = omega (arith, length-take i xs) in
+      let f : any (same_wire (get_or xs i blank)) (take i xs) ≡ false = rw n at f in
+      (rw is_at (next_more keys next xs i c w g f), firsts_with xs i set e (omega arith) f)
 
 -- ---- shape: only the zero signature is zero, and an array whose unused places are zero is its used ones, padded
 flag_off : (b : Bool) → same_flag false b ≡ true → b ≡ false
