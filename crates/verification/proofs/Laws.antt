@@ -4,6 +4,7 @@
 --     next_                    the same along an array
 --     wire_trans               what equals a copy equals the one copied
 --     firsts_, list_           the positions of a list's first ones, one more signature, and a step of the search among them
+--     walk_                    one round of the walk over the first places of an array
 --     good, packed-signatures  what a shape without a fault says; a list of the right shape is its signatures, packed
 use mathlib.Core.Path.{◌≡◌, refl, sym, ap, ◌∙◌}
 use mathlib.Core.Bool.{Bool, true, false, beq, ◌&&◌}

@@ -140,7 +140,7 @@ pub fn is_copy(set: u64, position: usize, earlier: Siger, s: Siger) -> bool
 }
 
 // One loop for signatures and receipts alike. A copy is looked for in the list itself, at the positions of the first ones.
-#[tactic(auto, using(crate::proofs::Laws::counted_none, crate::proofs::Laws::firsts_none, crate::proofs::Laws::none_before, crate::proofs::Laws::next_more, crate::proofs::Laws::firsts_with))]
+#[tactic(auto, using(crate::proofs::Laws::counted_none, crate::proofs::Laws::firsts_none, crate::proofs::Laws::none_before))]
 pub fn count(l: Sigers, keys: usize, next: usize) -> Counted
     ensures { result ≡ counted_of keys next (signatures l) }
 {

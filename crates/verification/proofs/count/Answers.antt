@@ -15,5 +15,5 @@ loop-j-preserved c = let e = c.each in
 pub each-preserved : goal.each-preserved
 each-preserved c = let a = c.args in let e = c.each in
     let w = walk_more a.l.at c.min.result e.i e.set (omega arith) c.each-test.true e.invariant.1 a.keys a.next e.c c.loop-j.j e.invariant.0
-            c.loop-j-test.false c.loop-j.auto.j-end c.loop-j.invariant in
+    c.loop-j-test.false c.loop-j.auto.j-end c.loop-j.invariant in
     (c.counted_with-c.ensures ∙ w.0, c.with-set.ensures ∙ w.1)
