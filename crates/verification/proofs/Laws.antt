@@ -4,7 +4,7 @@
 --     next_                    the same along an array
 --     wire_trans               what equals a copy equals the one copied
 --     firsts_, list_           the positions of a list's first ones, one more signature, and a step of the search among them
---     walk_                    one round of the walk over the first places of an array
+--     walk_, front_            one round of the walk over a list; the element at a place of its first m
 --     good, packed-signatures  what a shape without a fault says; a list of the right shape is its signatures, packed
 use mathlib.Core.Path.{◌≡◌, refl, sym, ap, ◌∙◌}
 use mathlib.Core.Bool.{Bool, true, false, beq, ◌&&◌}
@@ -205,51 +205,40 @@ module _ (xs : List Siger) (i set : ℕ) (e : set ≡ firsts_in xs i) where
         → any (same_wire x) (take (j + 1) xs) ≡ false
     list_other w d f = no_copy same_wire (λ p. get_or xs p blank) (λ p. take p xs) wire_trans (length xs) (one_further xs) x i j h g w d (rw e at f)
 
--- ---- one round of the walk over the first m of an array, as the code reads them: the element at i, and those before it
-module _ (xs : List Siger) (m i set : ℕ) (short : length xs ≤ 48) (in_List : i < length (take m xs)) (e : set ≡ firsts_in xs i) where
-  abbrev at_i : Siger
-  at_i = get_or (take m xs) i blank
-
+-- ---- one round of the walk over a list, as the code reads it: x, the element at i, and those before it
+module _ (xs : List Siger) (i set : ℕ) (short : length xs ≤ 48) (here : i < length xs) (e : set ≡ firsts_in xs i) (x : Siger) (is : x ≡ get_or xs i blank) where
   abbrev pub copies : ℕ → Bool
-  copies j = both (has_first set j) (same_wire at_i (get_or (take i xs) j blank))
+  copies j = both (has_first set j) (same_wire x (get_or (take i xs) j blank))
 
-  in_list : i < length xs
-  in_list = omega (arith, length-take m xs)
+  before : (j : ℕ) → j < length (take i xs) → j < i
+  before j h = omega (arith, length-take i xs)
 
-  is_at : at_i ≡ get_or xs i blank
-  is_at = let h : i < m = omega (arith, length-take m xs) in get_or-take m xs i blank h
+  copies_at : (j : ℕ) → j < length (take i xs) → (b : Bool) → copies j ≡ b → both (has_first set j) (same_wire x (get_or xs j blank)) ≡ b
+  copies_at j h b f = let g : get_or (take i xs) j blank ≡ get_or xs j blank = get_or-take i xs j blank (before j h) in rw g at f
 
-  copies_at : (j : ℕ) → j < length (take i xs) → (b : Bool) → copies j ≡ b → both (has_first set j) (same_wire (get_or xs i blank) (get_or xs j blank)) ≡ b
-  copies_at j h b f =
-      let k : j < i = omega (arith, length-take i xs) in
-      let g : get_or (take i xs) j blank ≡ get_or xs j blank = get_or-take i xs j blank k in
-      rw (is_at, g) at f
+  pub walk_other : (j : ℕ) → j < length (take i xs) → copies j ≡ false → any (same_wire x) (take j xs) ≡ false → any (same_wire x) (take (j + 1) xs) ≡ false
+  walk_other j h f d = list_other xs i set e x j (before j h) (omega arith) (omega arith) d (copies_at j h false f)
 
-  pub walk_copy : (j : ℕ) → j < length (take i xs) → copies j ≡ true → any (same_wire (get_or xs i blank)) (take i xs) ≡ true
-  walk_copy j h f =
-      let k : j < i = omega (arith, length-take i xs) in
-      let w : i < length xs = in_list in
-      list_copy xs i set e (get_or xs i blank) j k (omega arith) (copies_at j h true f)
-
-  pub walk_other : (j : ℕ) → j < length (take i xs) → copies j ≡ false → any (same_wire (get_or xs i blank)) (take j xs) ≡ false
-      → any (same_wire (get_or xs i blank)) (take (j + 1) xs) ≡ false
-  walk_other j h f d =
-      let k : j < i = omega (arith, length-take i xs) in
-      let w : i < length xs = in_list in
-      list_other xs i set e (get_or xs i blank) j k (omega arith) (omega arith) d (copies_at j h false f)
-
-  pub walk_kept : (keys next : ℕ) (c : Counted) → c ≡ counted_of keys next (take i xs) → any (same_wire (get_or xs i blank)) (take i xs) ≡ true
+  pub walk_copy : (keys next : ℕ) (c : Counted) → c ≡ counted_of keys next (take i xs) → (j : ℕ) → j < length (take i xs) → copies j ≡ true
       → (c ≡ counted_of keys next (take (i + 1) xs)) × (set ≡ firsts_in xs (i + 1))
-  walk_kept keys next c g f = (next_copy keys next xs i c in_list g f, firsts_kept xs i set e f)
+  walk_copy keys next c g j h f =
+      let a : any (same_wire (get_or xs i blank)) (take i xs) ≡ true = rw is at (list_copy xs i set e x j (before j h) (omega arith) (copies_at j h true f)) in
+      (next_copy keys next xs i c here g a, firsts_kept xs i set e a)
 
-  pub walk_more : (keys next : ℕ) (c : Counted) (j : ℕ) → c ≡ counted_of keys next (take i xs) → length (take i xs) ≤ j → j ≤ length (take i xs)
-      → any (same_wire (get_or xs i blank)) (take j xs) ≡ false
-      → (counted_with keys next c at_i ≡ counted_of keys next (take (i + 1) xs)) × (with_first set i ≡ firsts_in xs (i + 1))
-  walk_more keys next c j g h k f =
-      let w : i < length xs = in_list in
+  pub walk_first : (keys next : ℕ) (c : Counted) → c ≡ counted_of keys next (take i xs) → (j : ℕ) → length (take i xs) ≤ j → j ≤ length (take i xs)
+      → any (same_wire x) (take j xs) ≡ false → (counted_with keys next c x ≡ counted_of keys next (take (i + 1) xs)) × (with_first set i ≡ firsts_in xs (i + 1))
+  walk_first keys next c g j h k f =
       let n : j ≡ i = omega (arith, length-take i xs) in
-      let f : any (same_wire (get_or xs i blank)) (take i xs) ≡ false = rw n at f in
-      (rw is_at (next_more keys next xs i c w g f), firsts_with xs i set e (omega arith) f)
+      let a : any (same_wire (get_or xs i blank)) (take i xs) ≡ false = rw (n, is) at f in
+      (rw is (next_more keys next xs i c here g a), firsts_with xs i set e (omega arith) a)
+
+-- the element at i of the first m
+module _ (xs : List Siger) (m i : ℕ) (h : i < length (take m xs)) where
+  pub front_in : i < length xs
+  front_in = omega (arith, length-take m xs)
+
+  pub front_at : get_or (take m xs) i blank ≡ get_or xs i blank
+  front_at = get_or-take m xs i blank (omega (arith, length-take m xs))
 
 -- ---- shape: only the zero signature is zero, and an array whose unused places are zero is its used ones, padded
 flag_off : (b : Bool) → same_flag false b ≡ true → b ≡ false
