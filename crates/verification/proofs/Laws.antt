@@ -4,6 +4,7 @@
 --     next_                    the same along an array
 --     wire_trans               what equals a copy equals the one copied
 --     firsts_, list_           the positions of a list's first ones, one more signature, and a step of the search among them
+--     walk_, front_            one round of the walk over a list; the element at a place of its first m
 --     good, packed-signatures  what a shape without a fault says; a list of the right shape is its signatures, packed
 use mathlib.Core.Path.{◌≡◌, refl, sym, ap, ◌∙◌}
 use mathlib.Core.Bool.{Bool, true, false, beq, ◌&&◌}
@@ -15,6 +16,7 @@ use lib.Dec.{eqb, ltb, leb}
 use lib.ListN.{length, length-take, get_or, take, drop}
 use lib.Seq.{take-suc}
 use borrow.Author.Tests.{eqb-true, leb-true}
+use Rattle.std.proofs.lemmas.List.{get_or-take}
 use Rattle.std.specs.Prelude.{nat_eq}
 use Rattle.std.specs.Cmp.Lexicographic.{pointwise}
 use Rattle.std.specs.List.{list_all}
@@ -202,6 +204,41 @@ module _ (xs : List Siger) (i set : ℕ) (e : set ≡ firsts_in xs i) where
     pub list_other : i ≤ 64 → any (same_wire x) (take j xs) ≡ false → both (has_first set j) (same_wire x (get_or xs j blank)) ≡ false
         → any (same_wire x) (take (j + 1) xs) ≡ false
     list_other w d f = no_copy same_wire (λ p. get_or xs p blank) (λ p. take p xs) wire_trans (length xs) (one_further xs) x i j h g w d (rw e at f)
+
+-- ---- one round of the walk over a list, as the code reads it: x, the element at i, and those before it
+module _ (xs : List Siger) (i set : ℕ) (short : length xs ≤ 48) (here : i < length xs) (e : set ≡ firsts_in xs i) (x : Siger) (is : x ≡ get_or xs i blank) where
+  abbrev pub copies : ℕ → Bool
+  copies j = both (has_first set j) (same_wire x (get_or (take i xs) j blank))
+
+  before : (j : ℕ) → j < length (take i xs) → j < i
+  before j h = omega (arith, length-take i xs)
+
+  copies_at : (j : ℕ) → j < length (take i xs) → (b : Bool) → copies j ≡ b → both (has_first set j) (same_wire x (get_or xs j blank)) ≡ b
+  copies_at j h b f = let g : get_or (take i xs) j blank ≡ get_or xs j blank = get_or-take i xs j blank (before j h) in rw g at f
+
+  pub walk_other : (j : ℕ) → j < length (take i xs) → copies j ≡ false → any (same_wire x) (take j xs) ≡ false → any (same_wire x) (take (j + 1) xs) ≡ false
+  walk_other j h f d = list_other xs i set e x j (before j h) (omega arith) (omega arith) d (copies_at j h false f)
+
+  pub walk_copy : (keys next : ℕ) (c : Counted) → c ≡ counted_of keys next (take i xs) → (j : ℕ) → j < length (take i xs) → copies j ≡ true
+      → (c ≡ counted_of keys next (take (i + 1) xs)) × (set ≡ firsts_in xs (i + 1))
+  walk_copy keys next c g j h f =
+      let a : any (same_wire (get_or xs i blank)) (take i xs) ≡ true = rw is at (list_copy xs i set e x j (before j h) (omega arith) (copies_at j h true f)) in
+      (next_copy keys next xs i c here g a, firsts_kept xs i set e a)
+
+  pub walk_first : (keys next : ℕ) (c : Counted) → c ≡ counted_of keys next (take i xs) → (j : ℕ) → length (take i xs) ≤ j → j ≤ length (take i xs)
+      → any (same_wire x) (take j xs) ≡ false → (counted_with keys next c x ≡ counted_of keys next (take (i + 1) xs)) × (with_first set i ≡ firsts_in xs (i + 1))
+  walk_first keys next c g j h k f =
+      let n : j ≡ i = omega (arith, length-take i xs) in
+      let a : any (same_wire (get_or xs i blank)) (take i xs) ≡ false = rw (n, is) at f in
+      (rw is (next_more keys next xs i c here g a), firsts_with xs i set e (omega arith) a)
+
+-- the element at i of the first m
+module _ (xs : List Siger) (m i : ℕ) (h : i < length (take m xs)) where
+  pub front_in : i < length xs
+  front_in = omega (arith, length-take m xs)
+
+  pub front_at : get_or (take m xs) i blank ≡ get_or xs i blank
+  front_at = get_or-take m xs i blank (omega (arith, length-take m xs))
 
 -- ---- shape: only the zero signature is zero, and an array whose unused places are zero is its used ones, padded
 flag_off : (b : Bool) → same_flag false b ≡ true → b ≡ false

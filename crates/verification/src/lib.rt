@@ -66,13 +66,15 @@ pub struct Counted {
     pub exposed: u16,
 }
 
-// Copies are equal in code, index, ondex and raw; their verdicts may differ.
+// Copies are equal in code, index, ondex and raw; their verdicts may differ. The index first, since it tells most apart; inlined always, since a call would
+// copy both.
+#[inline(always)]
 #[tactic(auto, using(crate::proofs::Laws::same_raw, crate::proofs::Laws::flags_equal), unfolding(crate::specs::Verification::same_wire))]
 pub fn same_wire(a: Siger, b: Siger) -> bool
     ensures { result ≡ same_wire a b }
 {
-    a.code == b.code
-        && a.index == b.index
+    a.index == b.index
+        && a.code == b.code
         && a.dual == b.dual
         && a.ondex == b.ondex
         && a.raw == b.raw
@@ -138,7 +140,7 @@ pub fn is_copy(set: u64, position: usize, earlier: Siger, s: Siger) -> bool
 }
 
 // One loop for signatures and receipts alike. A copy is looked for in the list itself, at the positions of the first ones.
-#[tactic(auto, using(crate::proofs::Laws::counted_none, crate::proofs::Laws::firsts_none, crate::proofs::Laws::none_before, crate::proofs::Laws::next_more, crate::proofs::Laws::firsts_with))]
+#[tactic(auto, using(crate::proofs::Laws::counted_none, crate::proofs::Laws::firsts_none, crate::proofs::Laws::none_before))]
 pub fn count(l: Sigers, keys: usize, next: usize) -> Counted
     ensures { result ≡ counted_of keys next (signatures l) }
 {
@@ -147,14 +149,13 @@ pub fn count(l: Sigers, keys: usize, next: usize) -> Counted
         exposed: 0,
     };
     let mut set: u64 = 0;
-    'each: for i in 0..l.count.min(48) {
-        let s = l.at[i];
-        for j in 0..i {
-            if is_copy(set, j, l.at[j], s) {
+    'each: for (i, s) in l.at[..l.count.min(48)].iter().enumerate() {
+        for (j, earlier) in l.at[..i].iter().enumerate() {
+            if is_copy(set, j, *earlier, *s) {
                 continue 'each;
             }
         }
-        c = counted_with(c, s, keys, next);
+        c = counted_with(c, *s, keys, next);
         set = firsts::with(set, i);
     }
     c
