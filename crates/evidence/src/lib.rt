@@ -2,15 +2,16 @@
 #![tactic(auto)]
 
 ghost use Rattle.std.specs.Prelude.{◌≡◌};
+ghost use Rattle.answer.specs.Refusal.{answered};
 ghost use Rattle.verification.specs.Verification.{signatures};
 ghost use Rattle.evidence.specs.Evidence.{evidence_of, signed_on, exposed_on, receipted_on};
 
-use answer::Answer;
+use answer::Refusal;
 use threshold::Threshold;
 use verification::Sigers;
 
 // Verified keys, exposed commitments, and witnesses with a verified receipt.
-#[derive(Clone, Copy)]
+#[derive(Clone, Copy, PartialEq, Eq)]
 pub struct Evidence {
     pub verified: u16,
     pub exposed: u16,
@@ -29,22 +30,21 @@ pub fn gather(sigs: Sigers, receipts: Sigers, keys: usize, next: usize) -> Evide
     }
 }
 
-pub fn signed(t: Threshold, v: Evidence) -> Answer
-    ensures { result ≡ signed_on t v }
+pub fn signed(t: Threshold, v: Evidence) -> Result<(), Refusal>
+    ensures { answered result ≡ signed_on t v }
 {
-    authority::quorum(27, t, v.verified)
+    authority::quorum(t, v.verified).map_err(Refusal::MissingSignatures)
 }
 
-pub fn exposed(t: Threshold, v: Evidence) -> Answer
-    ensures { result ≡ exposed_on t v }
+pub fn exposed(t: Threshold, v: Evidence) -> Result<(), Refusal>
+    ensures { answered result ≡ exposed_on t v }
 {
-    authority::quorum(28, t, v.exposed)
+    authority::quorum(t, v.exposed).map_err(Refusal::PriorNextThresholdUnsatisfied)
 }
 
 // Receipts count for the witnesses that there are: a place past their list is skipped.
-pub fn receipted(toad: u32, v: Evidence, witnesses: usize) -> Answer
-    ensures { result ≡ receipted_on toad v witnesses }
+pub fn receipted(toad: u32, v: Evidence, witnesses: usize) -> Result<(), Refusal>
+    ensures { answered result ≡ receipted_on toad v witnesses }
 {
-    let set = places::cut_to(v.receipted, witnesses);
-    authority::receipts(toad, set)
+    authority::receipts(toad, places::cut_to(v.receipted, witnesses))
 }
