@@ -85,6 +85,7 @@ pub fn receipted_by(toad: u32, witnesses: usize, receipts: &[Siger]) -> Result<(
     }
     let mut t = none_yet();
     for (i, s) in receipts.iter().enumerate() {
+        // The position of the first one that it copies, or its own.
         let mut place = i;
         for (j, earlier) in receipts[..i].iter().enumerate() {
             if verification::is_copy(t.firsts, j, *earlier, *s) {
