@@ -1,38 +1,33 @@
 -- The counting step over a list: after i elements the tally is that of the first i, so what is concluded after all is the whole answer. Assumes nothing.
---     step-, conclude-          the ways through the by-value functions
 --     tally_at, tally_none       the tally of the first i elements, and of none
 --     Unlike, unlike-           none before position j is a copy of the element at i: one step of the search
 --     copy_step, first_step     the step takes the tally of the first i to that of one more, for a copy and for a first one
 --     too_many, few_enough      the whole answer, above 48 elements and not
 --     as_by_value               it is authority's `receipted_by` on a list of the right shape
-use mathlib.Core.Path.{◌≡◌, refl, sym, ap, subst, ◌∙◌}
+use mathlib.Core.Path.{◌≡◌, refl, sym, ap, ◌∙◌}
 use mathlib.Core.Bool.{Bool, true, false}
 use mathlib.Core.List.{List, ◌∷◌, ◌++◌, []}
 use Prim.Native.Nat.{ℕ, ◌+◌, ◌<◌, ◌≤◌}
-use native.Mathlib.Nat.{le_antisymm}
 use native.Mathlib.Numerals.{add-one}
 use native.Mathlib.Omega.{arith}
 use lib.ListN.{length, length-take, take, get_or}
-use lib.Seq.{take-suc, take_all, get_or-take}
+use lib.Seq.{take-suc, take_all}
 use borrow.Author.Tests.{le-leb, lt-leb, lt-ltb, le-ltb}
 use Rattle.lists.specs.Lists.{both, any, all}
 use Rattle.lists.proofs.Facts.{both_on, both_assoc}
 use Rattle.answer.specs.Answer.{refused}
-use Rattle.places.specs.Places.{places_in}
 use Rattle.places.proofs.Laws.{places-set}
-use Rattle.firsts.specs.Firsts.{has_first, with_first}
 use Rattle.verification.specs.declared.Siger.{Siger}
 use Rattle.verification.specs.declared.Sigers.{Sigers}
 use Rattle.verification.specs.declared.Counted.{Counted}
-use Rattle.verification.specs.Verification.{signatures, same_wire, counted_with, counted_of, verified_at, ondex_fits, shape_of}
-use Rattle.verification.proofs.Laws.{blank, counted_none, next_copy, next_more, firsts_in, firsts_none, none_before, firsts_kept, firsts_with, list_copy, list_other, good}
+use Rattle.verification.specs.Verification.{signatures, same_wire, counted_of, verified_at, ondex_fits, shape_of}
+use Rattle.verification.proofs.Laws.{blank, counted_none, firsts_in, firsts_none, none_before, copies, walk_other, walk_copy, walk_first, good}
 use Rattle.items.specs.Items.{listed}
 use Rattle.authority.specs.declared.Witnessing.{Witnessing}
-use Rattle.authority.specs.Authority.{receipts, witnessed}
+use Rattle.authority.specs.Authority.{witnessed}
 use Rattle.lent_receipts.specs.declared.Tally.{Tally}
 use Rattle.lent_receipts.specs.Receipted.{receipted_from, step_of, none_yet, concluded}
 
--- ---- the ways through the by-value functions
 tally : {n m : ℕ} {c d : Counted} {a b : Bool} → n ≡ m → c ≡ d → a ≡ b
     → ◌≡◌ {A = Tally} (record { firsts = n; counted = c; fits = a }) (record { firsts = m; counted = d; fits = b })
 tally e f g = cc
@@ -58,44 +53,35 @@ module _ (witnesses : ℕ) (xs : List Siger) where
   abbrev pub Unlike : ℕ → ℕ → Type 0
   Unlike i j = any (same_wire (here i)) (take j xs) ≡ false
 
-  -- a receipt against one of those before it, as the search reads it
-  abbrev pub copies : Tally → ℕ → ℕ → Bool
-  copies t i j = both (has_first t.firsts j) (same_wire (here i) (get_or (take i xs) j blank))
-
   pub unlike_none : (i : ℕ) → Unlike i 0
   unlike_none i = none_before (here i)
 
   module _ (short : length xs ≤ 48) (i : ℕ) (in_List : i < length xs) {t : Tally} (so : t ≡ tally_at i) where
-    copies_at : (j : ℕ) → j < i → (b : Bool) → b ≡ copies t i j → both (has_first (firsts_in xs i) j) (same_wire (here i) (here j)) ≡ b
-    copies_at j h b e = let same : get_or (take i xs) j blank ≡ get_or xs j blank = get_or-take i xs j blank h in rw same at (sym (e ∙ ap (λ (a : Tally). copies a i j) so))
+    set_is : t.firsts ≡ firsts_in xs i
+    set_is = ap (λ (a : Tally). a.firsts) so
 
-    before : (j : ℕ) → j < length (take i xs) → j < i
-    before j h = omega (arith, length-take i xs)
+    counted_is : t.counted ≡ counted_of witnesses 0 (take i xs)
+    counted_is = ap (λ (a : Tally). a.counted) so
 
-    pub unlike_next : (j : ℕ) → j < length (take i xs) → Unlike i j → false ≡ copies t i j → Unlike i (j + 1)
-    unlike_next j h u e =
-        let k : j < i = before j h in
-        list_other xs i (firsts_in xs i) refl (here i) j k (omega arith) (omega arith) u (copies_at j k false e)
+    pub unlike_next : (j : ℕ) → j < length (take i xs) → Unlike i j → false ≡ copies xs i t.firsts (here i) j → Unlike i (j + 1)
+    unlike_next j h u e = walk_other xs i t.firsts short in_List set_is (here i) refl j h (sym e) u
 
-    fit_more : both (all ondex_fits (take i xs)) (ondex_fits (here i)) ≡ all ondex_fits (take (i + 1) xs)
-    fit_more = rw (add-one i, take-suc xs i blank in_List) (sym (all_more ondex_fits (take i xs) (here i)))
+    fit_more : both t.fits (ondex_fits (here i)) ≡ all ondex_fits (take (i + 1) xs)
+    fit_more = rw so (rw (add-one i, take-suc xs i blank in_List) (sym (all_more ondex_fits (take i xs) (here i))))
 
-    pub copy_step : (j place : ℕ) → place ≡ j → j < length (take i xs) → true ≡ copies t i j → step_of witnesses t (here i) i place ≡ tally_at (i + 1)
+    pub copy_step : (j place : ℕ) → place ≡ j → j < length (take i xs) → true ≡ copies xs i t.firsts (here i) j → step_of witnesses t (here i) i place ≡ tally_at (i + 1)
     unfolding step_of
     copy_step j place p h e =
-        let k : j < i = before j h in
-        let f = list_copy xs i (firsts_in xs i) refl (here i) j k (omega arith) (copies_at j k true e) in
-        rw (so, p, lt-ltb j i k)
-        (tally (firsts_kept xs i (firsts_in xs i) refl f) (next_copy witnesses 0 xs i (counted_of witnesses 0 (take i xs)) in_List refl f) fit_more)
+        let k : j < i = omega (arith, length-take i xs) in
+        let w = walk_copy xs i t.firsts short in_List set_is (here i) refl witnesses 0 t.counted counted_is j h (sym e) in
+        rw (p, lt-ltb j i k) (tally w.1 w.0 fit_more)
 
     pub first_step : (j place : ℕ) → place ≡ i → length (take i xs) ≤ j → j ≤ length (take i xs) → Unlike i j → step_of witnesses t (here i) i place ≡ tally_at (i + 1)
     unfolding step_of
-    first_step j place p h g d =
-        let k : j ≡ i = omega (arith, length-take i xs) in
-        let u : Unlike i i = subst (Unlike i) k d in
+    first_step j place p h g u =
         let n : i ≤ i = omega arith in
-        rw (so, p, le-ltb i i n)
-        (tally (firsts_with xs i (firsts_in xs i) refl (omega arith) u) (next_more witnesses 0 xs i (counted_of witnesses 0 (take i xs)) in_List refl u) fit_more)
+        let w = walk_first xs i t.firsts short in_List set_is (here i) refl witnesses 0 t.counted counted_is j h g u in
+        rw (p, le-ltb i i n) (tally w.1 w.0 fit_more)
 
 -- ---- the whole answer
 module _ (toad witnesses : ℕ) (xs : List Siger) where

@@ -76,7 +76,7 @@ fn conclude(t: Tally, toad: u32) -> Result<(), Refusal>
 }
 
 // "one entry takes a lent list of signature structs, as `receipted_by` does".
-#[tactic(auto, using(crate::proofs::Laws::too_many, crate::proofs::Laws::few_enough, crate::proofs::Laws::tally_none, crate::proofs::Laws::unlike_none, crate::proofs::Laws::unlike_next, crate::proofs::Laws::copy_step, crate::proofs::Laws::first_step))]
+#[tactic(auto, using(crate::proofs::Laws::too_many, crate::proofs::Laws::few_enough, crate::proofs::Laws::tally_none, crate::proofs::Laws::unlike_none))]
 pub fn receipted_by(toad: u32, witnesses: usize, receipts: &[Siger]) -> Result<(), Refusal>
     ensures { answered result ≡ receipted_from toad witnesses receipts.now }
 {
@@ -85,6 +85,7 @@ pub fn receipted_by(toad: u32, witnesses: usize, receipts: &[Siger]) -> Result<(
     }
     let mut t = none_yet();
     for (i, s) in receipts.iter().enumerate() {
+        // The position of the first one that it copies, or its own.
         let mut place = i;
         for (j, earlier) in receipts[..i].iter().enumerate() {
             if verification::is_copy(t.firsts, j, *earlier, *s) {

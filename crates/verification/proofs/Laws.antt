@@ -205,21 +205,21 @@ module _ (xs : List Siger) (i set : ℕ) (e : set ≡ firsts_in xs i) where
         → any (same_wire x) (take (j + 1) xs) ≡ false
     list_other w d f = no_copy same_wire (λ p. get_or xs p blank) (λ p. take p xs) wire_trans (length xs) (one_further xs) x i j h g w d (rw e at f)
 
--- ---- one round of the walk over a list, as the code reads it: x, the element at i, and those before it
-module _ (xs : List Siger) (i set : ℕ) (short : length xs ≤ 48) (here : i < length xs) (e : set ≡ firsts_in xs i) (x : Siger) (is : x ≡ get_or xs i blank) where
-  abbrev pub copies : ℕ → Bool
-  copies j = both (has_first set j) (same_wire x (get_or (take i xs) j blank))
+-- ---- one round of the walk over a list, as the code reads it: x, the element at i, against those before it
+abbrev pub copies : List Siger → ℕ → ℕ → Siger → ℕ → Bool
+copies xs i set x j = both (has_first set j) (same_wire x (get_or (take i xs) j blank))
 
+module _ (xs : List Siger) (i set : ℕ) (short : length xs ≤ 48) (here : i < length xs) (e : set ≡ firsts_in xs i) (x : Siger) (is : x ≡ get_or xs i blank) where
   before : (j : ℕ) → j < length (take i xs) → j < i
   before j h = omega (arith, length-take i xs)
 
-  copies_at : (j : ℕ) → j < length (take i xs) → (b : Bool) → copies j ≡ b → both (has_first set j) (same_wire x (get_or xs j blank)) ≡ b
+  copies_at : (j : ℕ) → j < length (take i xs) → (b : Bool) → copies xs i set x j ≡ b → both (has_first set j) (same_wire x (get_or xs j blank)) ≡ b
   copies_at j h b f = let g : get_or (take i xs) j blank ≡ get_or xs j blank = get_or-take i xs j blank (before j h) in rw g at f
 
-  pub walk_other : (j : ℕ) → j < length (take i xs) → copies j ≡ false → any (same_wire x) (take j xs) ≡ false → any (same_wire x) (take (j + 1) xs) ≡ false
+  pub walk_other : (j : ℕ) → j < length (take i xs) → copies xs i set x j ≡ false → any (same_wire x) (take j xs) ≡ false → any (same_wire x) (take (j + 1) xs) ≡ false
   walk_other j h f d = list_other xs i set e x j (before j h) (omega arith) (omega arith) d (copies_at j h false f)
 
-  pub walk_copy : (keys next : ℕ) (c : Counted) → c ≡ counted_of keys next (take i xs) → (j : ℕ) → j < length (take i xs) → copies j ≡ true
+  pub walk_copy : (keys next : ℕ) (c : Counted) → c ≡ counted_of keys next (take i xs) → (j : ℕ) → j < length (take i xs) → copies xs i set x j ≡ true
       → (c ≡ counted_of keys next (take (i + 1) xs)) × (set ≡ firsts_in xs (i + 1))
   walk_copy keys next c g j h f =
       let a : any (same_wire (get_or xs i blank)) (take i xs) ≡ true = rw is at (list_copy xs i set e x j (before j h) (omega arith) (copies_at j h true f)) in
