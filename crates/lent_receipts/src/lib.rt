@@ -4,8 +4,6 @@
 
 ghost use Rattle.std.specs.Prelude.{◌≡◌};
 ghost use Rattle.answer.specs.Refusal.{answered};
-ghost use Rattle.places.specs.Places.{places_in};
-ghost use Rattle.authority.specs.Authority.{receipts};
 ghost use Rattle.lent_receipts.specs.Receipted.{step_of, none_yet, concluded, receipted_from};
 
 use answer::Refusal;
@@ -49,21 +47,6 @@ fn step(t: Tally, s: Siger, i: usize, j: usize, witnesses: usize) -> Tally
     }
 }
 
-// Stands in for `authority::receipts` until that gives a `Result`: then `conclude` calls it.
-#[tactic(auto, unfolding(authority::specs::Authority::receipts))]
-fn enough(toad: u32, set: u16) -> Result<(), Refusal>
-    ensures { answered result ≡ receipts toad (places_in set) }
-{
-    let valid = places::size(set);
-    if toad <= valid {
-        return Ok(());
-    }
-    Err(Refusal::InsufficientWitnessReceipts {
-        valid,
-        required: toad,
-    })
-}
-
 // Shape before the count, and also where toad is 0.
 #[tactic(auto, unfolding(crate::specs::Receipted::concluded))]
 fn conclude(t: Tally, toad: u32) -> Result<(), Refusal>
@@ -72,7 +55,7 @@ fn conclude(t: Tally, toad: u32) -> Result<(), Refusal>
     if !t.fits {
         return Err(Refusal::BadField);
     }
-    enough(toad, t.counted.verified)
+    authority::receipts(toad, t.counted.verified)
 }
 
 // "one entry takes a lent list of signature structs, as `receipted_by` does".

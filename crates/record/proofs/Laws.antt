@@ -8,16 +8,13 @@ use lib.Dec.{eqb}
 use lib.ListN.{length}
 use Rattle.lists.specs.Lists.{pick}
 use Rattle.lists.proofs.Padding.{padded-used}
-use Rattle.item.specs.declared.Item.{Item}
 use Rattle.item.specs.declared.Kind.TheVariants.{Key, Said}
 use Rattle.verification.specs.declared.Siger.{Siger}
 use Rattle.verification.specs.declared.Sigers.{Sigers}
-use Rattle.verification.specs.declared.Counted.{Counted}
-use Rattle.verification.specs.Verification.{counted_of, signatures, packed_sigers, no_siger}
+use Rattle.verification.specs.Verification.{signatures, packed_sigers, no_siger}
 use Rattle.evidence.specs.Evidence.{evidence_of}
 use Rattle.event.specs.declared.Ilk.{Ilk}
 use Rattle.event.specs.declared.Ilk.TheVariants.{Inception, Rotation, Interaction}
-use Rattle.event.specs.declared.Head.{Head}
 use Rattle.event.specs.declared.Body.{Body}
 use Rattle.event.specs.declared.Event.{Event}
 use Rattle.state.specs.declared.KeyState.{KeyState}
@@ -71,10 +68,6 @@ tail_value ilk s h b at =
     over g (eqb n (length s)) _ n
 
 -- ---- Whole records
--- what was read by places, and by value
-pub with_value : {A B : Type 0} (g : A → B) {x p : Parse A} {v : Parse B} → mapped g p ≡ v → x ≡ p → (x ≡ p) × (mapped g x ≡ v)
-with_value g e h = (h, ap (mapped g) h ∙ e)
-
 module _ (s : List ℕ) (at : ℕ) where
   pub inception_value : mapped (event_of Inception s) (inception_places s at) ≡ inception_at s at
   unfolding inception_places inception_at
@@ -125,6 +118,20 @@ module _ (s : List ℕ) (at : ℕ) where
       flat g (place_at Said s z) _ _
       (at_place g (item_of s) (place_at Said s z) _ _ _ (item_value Said s z) λ said n.
       over_closing g _ (eqb n (length s)) _ n)))))))))
+
+-- what was read by places is, by value, what the layout reads
+module _ (s : List ℕ) (at : ℕ) where
+  pub inception_read : (x : Parse EventMarks) → x ≡ inception_places s at → mapped (event_of Inception s) x ≡ inception_at s at
+  inception_read x e = ap (mapped (event_of Inception s)) e ∙ inception_value s at
+
+  pub rotation_read : (x : Parse EventMarks) → x ≡ rotation_places s at → mapped (event_of Rotation s) x ≡ rotation_at s at
+  rotation_read x e = ap (mapped (event_of Rotation s)) e ∙ rotation_value s at
+
+  pub interaction_read : (x : Parse EventMarks) → x ≡ interaction_places s at → mapped (event_of Interaction s) x ≡ interaction_at s at
+  interaction_read x e = ap (mapped (event_of Interaction s)) e ∙ interaction_value s at
+
+  pub snapshot_read : (x : Parse StateMarks) → x ≡ snapshot_places s at → mapped (state_of s) x ≡ snapshot_at s at
+  snapshot_read x e = ap (mapped (state_of s)) e ∙ snapshot_value s at
 
 -- packed and read back
 used : (xs : List Siger) → signatures (packed_sigers xs) ≡ xs

@@ -6,7 +6,7 @@ use Rattle.verification.specs.Verification.{packed_sigers}
 use Rattle.event.specs.declared.Ilk.{Ilk}
 use Rattle.event.specs.declared.Event.{Event}
 use Rattle.state.specs.declared.KeyState.{KeyState}
-use Rattle.format.specs.Parse.{Parse, got, bad, ◌>>=◌, num_at, ended}
+use Rattle.format.specs.Parse.{Parse, got, ◌>>=◌, num_at, ended}
 use Rattle.format.specs.Fields.{sn_at, flag_at}
 use Rattle.layout.specs.Records.{latest_at}
 use Rattle.field.specs.Field.{place_at, item_of, items_of, config_of}

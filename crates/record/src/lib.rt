@@ -70,10 +70,9 @@ fn scan_tail(s: &[u8], at: usize) -> Result<(TailMarks, usize), Refusal>
     Ok((tail, end))
 }
 
-#[tactic(auto, using(crate::proofs::Laws::inception_value), unfolding(crate::specs::Marks::inception_places))]
-pub fn scan_inception(s: &[u8], at: usize) -> Result<(EventMarks, usize), Refusal>
-    ensures result_value { scanned result ≡ inception_places s.now at }
-    ensures result_value_2 { mapped (event_of Inception s.now) (scanned result) ≡ inception_at s.now at }
+#[tactic(auto, unfolding(crate::specs::Marks::inception_places))]
+fn inception(s: &[u8], at: usize) -> Result<(EventMarks, usize), Refusal>
+    ensures { scanned result ≡ inception_places s.now at }
 {
     let Some((head, p)) = parts::scan_first_head(s, at) else {
         return Err(Refusal::BadField);
@@ -83,10 +82,17 @@ pub fn scan_inception(s: &[u8], at: usize) -> Result<(EventMarks, usize), Refusa
     Ok((EventMarks { head, body, tail }, next))
 }
 
-#[tactic(auto, using(crate::proofs::Laws::rotation_value), unfolding(crate::specs::Marks::rotation_places))]
-pub fn scan_rotation(s: &[u8], at: usize) -> Result<(EventMarks, usize), Refusal>
-    ensures result_value { scanned result ≡ rotation_places s.now at }
-    ensures result_value_2 { mapped (event_of Rotation s.now) (scanned result) ≡ rotation_at s.now at }
+#[tactic(auto, using(crate::proofs::Laws::inception_read))]
+pub fn scan_inception(s: &[u8], at: usize) -> Result<(EventMarks, usize), Refusal>
+    ensures result_value { scanned result ≡ inception_places s.now at }
+    ensures result_value_2 { mapped (event_of Inception s.now) (scanned result) ≡ inception_at s.now at }
+{
+    inception(s, at)
+}
+
+#[tactic(auto, unfolding(crate::specs::Marks::rotation_places))]
+fn rotation(s: &[u8], at: usize) -> Result<(EventMarks, usize), Refusal>
+    ensures { scanned result ≡ rotation_places s.now at }
 {
     let Some((head, p)) = parts::scan_later_head(s, at) else {
         return Err(Refusal::BadField);
@@ -96,10 +102,17 @@ pub fn scan_rotation(s: &[u8], at: usize) -> Result<(EventMarks, usize), Refusal
     Ok((EventMarks { head, body, tail }, next))
 }
 
-#[tactic(auto, using(crate::proofs::Laws::interaction_value), unfolding(crate::specs::Marks::interaction_places))]
-pub fn scan_interaction(s: &[u8], at: usize) -> Result<(EventMarks, usize), Refusal>
-    ensures result_value { scanned result ≡ interaction_places s.now at }
-    ensures result_value_2 { mapped (event_of Interaction s.now) (scanned result) ≡ interaction_at s.now at }
+#[tactic(auto, using(crate::proofs::Laws::rotation_read))]
+pub fn scan_rotation(s: &[u8], at: usize) -> Result<(EventMarks, usize), Refusal>
+    ensures result_value { scanned result ≡ rotation_places s.now at }
+    ensures result_value_2 { mapped (event_of Rotation s.now) (scanned result) ≡ rotation_at s.now at }
+{
+    rotation(s, at)
+}
+
+#[tactic(auto, unfolding(crate::specs::Marks::interaction_places))]
+fn interaction(s: &[u8], at: usize) -> Result<(EventMarks, usize), Refusal>
+    ensures { scanned result ≡ interaction_places s.now at }
 {
     let Some((head, p)) = parts::scan_later_head(s, at) else {
         return Err(Refusal::BadField);
@@ -107,6 +120,14 @@ pub fn scan_interaction(s: &[u8], at: usize) -> Result<(EventMarks, usize), Refu
     let (tail, next) = scan_tail(s, p)?;
     let body = parts::no_body();
     Ok((EventMarks { head, body, tail }, next))
+}
+
+#[tactic(auto, using(crate::proofs::Laws::interaction_read))]
+pub fn scan_interaction(s: &[u8], at: usize) -> Result<(EventMarks, usize), Refusal>
+    ensures result_value { scanned result ≡ interaction_places s.now at }
+    ensures result_value_2 { mapped (event_of Interaction s.now) (scanned result) ≡ interaction_at s.now at }
+{
+    interaction(s, at)
 }
 
 // "transferable 0 or 1, last establishment sn and said", and nothing behind them
@@ -135,10 +156,9 @@ fn scan_last(s: &[u8], at: usize) -> Option<(LastMarks, usize)>
 }
 
 // A snapshot has what an inception sets up between its latest type and its flag.
-#[tactic(auto, using(crate::proofs::Laws::snapshot_value), unfolding(crate::specs::Marks::snapshot_places, layout::specs::Records::latest_at))]
-pub fn scan_snapshot(s: &[u8], at: usize) -> Result<(StateMarks, usize), Refusal>
-    ensures result_value { scanned result ≡ snapshot_places s.now at }
-    ensures result_value_2 { mapped (state_of s.now) (scanned result) ≡ snapshot_at s.now at }
+#[tactic(auto, unfolding(crate::specs::Marks::snapshot_places, layout::specs::Records::latest_at))]
+fn snapshot(s: &[u8], at: usize) -> Result<(StateMarks, usize), Refusal>
+    ensures { scanned result ≡ snapshot_places s.now at }
 {
     let Some((head, p)) = parts::scan_first_head(s, at) else {
         return Err(Refusal::BadField);
@@ -160,6 +180,14 @@ pub fn scan_snapshot(s: &[u8], at: usize) -> Result<(StateMarks, usize), Refusal
         last,
     };
     Ok((state, next))
+}
+
+#[tactic(auto, using(crate::proofs::Laws::snapshot_read))]
+pub fn scan_snapshot(s: &[u8], at: usize) -> Result<(StateMarks, usize), Refusal>
+    ensures result_value { scanned result ≡ snapshot_places s.now at }
+    ensures result_value_2 { mapped (state_of s.now) (scanned result) ≡ snapshot_at s.now at }
+{
+    snapshot(s, at)
 }
 
 pub fn copy_state(s: &[u8], m: StateMarks) -> KeyState

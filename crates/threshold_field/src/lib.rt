@@ -11,7 +11,7 @@ use threshold::Threshold;
 use weight::Weight;
 
 // What a scan keeps: the tag, the simple number, how many clauses and weights there are, and where the first size and the first
-// weight stand. No enum by the tag: what is copied has the tag that was given, whatever it is (rule 1).
+// weight stand. No enum by the tag: what is copied has the tag that was given, whatever it is: so `copy` promises.
 #[derive(Clone, Copy)]
 pub struct Marks {
     pub tag: u8,
