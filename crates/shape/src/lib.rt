@@ -1,6 +1,6 @@
 // The shape of structs: before anything else a struct entry looks at the state, then at the event, each in field order.
 // BadField where a place is outside its class, TooMany where a list counts above its limit.
-#![tactic(auto)]
+#![tactic(auto, using(answer::proofs::Results::refuses), unfolding(answer::specs::Answer::first_fault, state::specs::State::is_held, crate::specs::Event::first_head, crate::specs::Event::later_head, crate::specs::Event::own_shape, crate::specs::Event::next_shape, crate::specs::Event::body_shape, crate::specs::Event::signed_shape, crate::specs::Event::event_shape, crate::specs::State::state_head, crate::specs::State::state_tail, crate::specs::State::state_shape, crate::specs::State::holder_shape))]
 
 ghost use Rattle.std.specs.Prelude.{◌≡◌};
 ghost use Rattle.answer.specs.Refusal.{fault_of};
@@ -14,7 +14,6 @@ use event::{Body, Event, Head, Ilk};
 use item::Kind;
 use state::{Holder, KeyState};
 
-#[tactic(auto, using(answer::proofs::Results::refuses), unfolding(answer::specs::Answer::first_fault, crate::specs::Event::first_head))]
 fn first_head(h: Head) -> Result<(), Refusal>
     ensures { fault_of result ≡ first_head h }
 {
@@ -22,7 +21,6 @@ fn first_head(h: Head) -> Result<(), Refusal>
     item::shape(h.said, Kind::Said)
 }
 
-#[tactic(auto, using(answer::proofs::Results::refuses), unfolding(answer::specs::Answer::first_fault, crate::specs::Event::later_head))]
 fn later_head(h: Head) -> Result<(), Refusal>
     ensures { fault_of result ≡ later_head h }
 {
@@ -30,7 +28,6 @@ fn later_head(h: Head) -> Result<(), Refusal>
     item::shape(h.prior, Kind::Said)
 }
 
-#[tactic(auto, using(answer::proofs::Results::refuses), unfolding(answer::specs::Answer::first_fault, crate::specs::Event::own_shape))]
 fn own_shape(a: Authority) -> Result<(), Refusal>
     ensures { fault_of result ≡ own_shape a }
 {
@@ -38,7 +35,6 @@ fn own_shape(a: Authority) -> Result<(), Refusal>
     threshold::shape(a.threshold)
 }
 
-#[tactic(auto, using(answer::proofs::Results::refuses), unfolding(answer::specs::Answer::first_fault, crate::specs::Event::next_shape))]
 fn next_shape(c: Commitment) -> Result<(), Refusal>
     ensures { fault_of result ≡ next_shape c }
 {
@@ -46,7 +42,6 @@ fn next_shape(c: Commitment) -> Result<(), Refusal>
     threshold::shape(c.threshold)
 }
 
-#[tactic(auto, using(answer::proofs::Results::refuses), unfolding(answer::specs::Answer::first_fault, crate::specs::Event::body_shape))]
 fn body_shape(b: Body) -> Result<(), Refusal>
     ensures { fault_of result ≡ body_shape b }
 {
@@ -55,7 +50,6 @@ fn body_shape(b: Body) -> Result<(), Refusal>
     items::shape(b.additions, Kind::Key)
 }
 
-#[tactic(auto, using(answer::proofs::Results::refuses), unfolding(answer::specs::Answer::first_fault, crate::specs::Event::signed_shape))]
 fn signed_shape(e: Event) -> Result<(), Refusal>
     ensures { fault_of result ≡ signed_shape e }
 {
@@ -63,7 +57,6 @@ fn signed_shape(e: Event) -> Result<(), Refusal>
     verification::shape(e.receipts)
 }
 
-#[tactic(auto, using(answer::proofs::Results::refuses), unfolding(answer::specs::Answer::first_fault))]
 fn inception_shape(e: Event) -> Result<(), Refusal>
     ensures { fault_of result ≡ shape_as Inception e }
 {
@@ -73,7 +66,6 @@ fn inception_shape(e: Event) -> Result<(), Refusal>
     signed_shape(e)
 }
 
-#[tactic(auto, using(answer::proofs::Results::refuses), unfolding(answer::specs::Answer::first_fault))]
 fn rotation_shape(e: Event) -> Result<(), Refusal>
     ensures { fault_of result ≡ shape_as Rotation e }
 {
@@ -83,7 +75,6 @@ fn rotation_shape(e: Event) -> Result<(), Refusal>
     signed_shape(e)
 }
 
-#[tactic(auto, using(answer::proofs::Results::refuses), unfolding(answer::specs::Answer::first_fault))]
 fn interaction_shape(e: Event) -> Result<(), Refusal>
     ensures { fault_of result ≡ shape_as Interaction e }
 {
@@ -91,7 +82,6 @@ fn interaction_shape(e: Event) -> Result<(), Refusal>
     signed_shape(e)
 }
 
-#[tactic(auto, unfolding(crate::specs::Event::event_shape))]
 pub fn of_event(e: Event) -> Result<(), Refusal>
     ensures { fault_of result ≡ event_shape e }
 {
@@ -99,8 +89,7 @@ pub fn of_event(e: Event) -> Result<(), Refusal>
         Ilk::Inception => inception_shape(e),
         Ilk::Rotation => rotation_shape(e),
         Ilk::Interaction => interaction_shape(e),
-        Ilk::DelegatedInception => Ok(()),
-        Ilk::DelegatedRotation => Ok(()),
+        Ilk::DelegatedInception | Ilk::DelegatedRotation => Ok(()),
     }
 }
 
@@ -115,7 +104,6 @@ fn latest_shape(latest: u8) -> Result<(), Refusal>
     }
 }
 
-#[tactic(auto, using(answer::proofs::Results::refuses), unfolding(answer::specs::Answer::first_fault, crate::specs::State::state_head))]
 fn state_head(s: KeyState) -> Result<(), Refusal>
     ensures { fault_of result ≡ state_head s }
 {
@@ -124,7 +112,6 @@ fn state_head(s: KeyState) -> Result<(), Refusal>
     latest_shape(s.latest)
 }
 
-#[tactic(auto, using(answer::proofs::Results::refuses), unfolding(answer::specs::Answer::first_fault, crate::specs::State::state_tail))]
 fn state_tail(s: KeyState) -> Result<(), Refusal>
     ensures { fault_of result ≡ state_tail s }
 {
@@ -133,7 +120,6 @@ fn state_tail(s: KeyState) -> Result<(), Refusal>
     item::shape(s.last.said, Kind::Said)
 }
 
-#[tactic(auto, using(answer::proofs::Results::refuses), unfolding(answer::specs::Answer::first_fault, crate::specs::State::state_shape))]
 pub fn of_state(s: KeyState) -> Result<(), Refusal>
     ensures { fault_of result ≡ state_shape s }
 {
@@ -143,7 +129,6 @@ pub fn of_state(s: KeyState) -> Result<(), Refusal>
     state_tail(s)
 }
 
-#[tactic(auto, unfolding(crate::specs::State::holder_shape, state::specs::State::is_held))]
 pub fn of_holder(h: Holder) -> Result<(), Refusal>
     ensures { fault_of result ≡ holder_shape h }
 {
