@@ -20,7 +20,7 @@ use threshold::Threshold;
 use weight::Weight;
 
 // Each `put` writes from a place on where its caller has room, and gives the place behind what it wrote.
-#[tactic(auto, using(std::proofs::lemmas::Grind::common_steps, writer::proofs::Laws::over_append, writer::proofs::Laws::length_be), unfolding(crate::specs::Bytes::words_bytes, writer::specs::Writing::put))]
+#[tactic(auto, using(writer::proofs::Laws::pieces), unfolding(crate::specs::Bytes::words_bytes, writer::specs::Writing::put))]
 fn put_words(buf: &mut [u8], at: usize, a: u64, b: u64) -> usize
     requires { Room (words_bytes a b) at buf.old }
     ensures value { result ≡ at + length (words_bytes a b) }
@@ -30,7 +30,7 @@ fn put_words(buf: &mut [u8], at: usize, a: u64, b: u64) -> usize
     writer::number(buf, p, 8, b)
 }
 
-#[tactic(auto, using(std::proofs::lemmas::Grind::common_steps, writer::proofs::Laws::over_cons), unfolding(crate::specs::Bytes::item_bytes, writer::specs::Writing::put))]
+#[tactic(auto, using(writer::proofs::Laws::pieces), unfolding(crate::specs::Bytes::item_bytes, writer::specs::Writing::put))]
 fn put_item(buf: &mut [u8], at: usize, x: Item) -> usize
     requires { Room (item_bytes x) at buf.old }
     ensures value { result ≡ at + length (item_bytes x) }
@@ -53,7 +53,7 @@ fn put_items(buf: &mut [u8], at: usize, l: Items) -> usize
     p
 }
 
-#[tactic(auto, using(std::proofs::lemmas::Grind::common_steps, writer::proofs::Laws::over_cons), unfolding(crate::specs::Bytes::counted, writer::specs::Writing::put))]
+#[tactic(auto, using(writer::proofs::Laws::pieces), unfolding(crate::specs::Bytes::counted, writer::specs::Writing::put))]
 fn put_counted(buf: &mut [u8], at: usize, src: &[u8]) -> usize
     requires src_len_bound { length src.now ≤ 16 }
     requires room { Room (counted src.now) at buf.old }
@@ -76,7 +76,7 @@ fn put_weights(buf: &mut [u8], at: usize, weights: &[Weight]) -> usize
     p
 }
 
-#[tactic(auto, using(crate::proofs::Shapes::is_weighted, std::proofs::lemmas::Grind::common_steps, writer::proofs::Laws::over_append, writer::proofs::Laws::over_cons, writer::proofs::Laws::length_be), unfolding(crate::specs::Bytes::threshold_bytes, writer::specs::Writing::put))]
+#[tactic(auto, using(writer::proofs::Laws::pieces, crate::proofs::Shapes::is_weighted), unfolding(crate::specs::Bytes::threshold_bytes, writer::specs::Writing::put))]
 fn put_threshold(buf: &mut [u8], at: usize, t: Threshold) -> usize
     requires t_value { shape_of t ≡ 0 }
     requires room { Room (threshold_bytes t) at buf.old }
@@ -93,7 +93,7 @@ fn put_threshold(buf: &mut [u8], at: usize, t: Threshold) -> usize
     put_weights(buf, q, &t.weights[..total])
 }
 
-#[tactic(auto, using(std::proofs::lemmas::Grind::common_steps, writer::proofs::Laws::over_append), unfolding(crate::specs::Bytes::config_bytes))]
+#[tactic(auto, using(writer::proofs::Laws::pieces), unfolding(crate::specs::Bytes::config_bytes))]
 fn put_config(buf: &mut [u8], at: usize, c: Config) -> usize
     requires count_bound { c.count ≤ 8 }
     requires room { Room (config_bytes c) at buf.old }
@@ -103,7 +103,7 @@ fn put_config(buf: &mut [u8], at: usize, c: Config) -> usize
     put_counted(buf, at, &c.traits[..c.count])
 }
 
-#[tactic(auto, using(std::proofs::lemmas::Grind::common_steps, writer::proofs::Laws::over_append), unfolding(crate::specs::Saved::point_bytes))]
+#[tactic(auto, using(writer::proofs::Laws::pieces), unfolding(crate::specs::Saved::point_bytes))]
 fn put_point(buf: &mut [u8], at: usize, sn: Number, said: Item) -> usize
     requires { Room (point_bytes sn said) at buf.old }
     ensures value { result ≡ at + length (point_bytes sn said) }
@@ -113,7 +113,7 @@ fn put_point(buf: &mut [u8], at: usize, sn: Number, said: Item) -> usize
     put_item(buf, p, said)
 }
 
-#[tactic(auto, using(std::proofs::lemmas::Grind::common_steps, writer::proofs::Laws::over_append), unfolding(crate::specs::Saved::group_bytes))]
+#[tactic(auto, using(writer::proofs::Laws::pieces), unfolding(crate::specs::Saved::group_bytes))]
 fn put_group(buf: &mut [u8], at: usize, l: Items, t: Threshold) -> usize
     requires count_bound { l.count ≤ 16 }
     requires t_value { shape_of t ≡ 0 }
@@ -125,7 +125,7 @@ fn put_group(buf: &mut [u8], at: usize, l: Items, t: Threshold) -> usize
     put_threshold(buf, p, t)
 }
 
-#[tactic(auto, using(std::proofs::lemmas::Grind::common_steps, writer::proofs::Laws::over_append), unfolding(crate::specs::Saved::head_bytes))]
+#[tactic(auto, using(writer::proofs::Laws::pieces), unfolding(crate::specs::Saved::head_bytes))]
 fn put_head(buf: &mut [u8], at: usize, s: KeyState) -> usize
     requires { Room (head_bytes s) at buf.old }
     ensures value { result ≡ at + length (head_bytes s) }
@@ -136,7 +136,7 @@ fn put_head(buf: &mut [u8], at: usize, s: KeyState) -> usize
 }
 
 // "witnesses, toad, config, transferable 0 or 1"
-#[tactic(auto, using(std::proofs::lemmas::Grind::common_steps, writer::proofs::Laws::over_append, writer::proofs::Laws::over_cons, writer::proofs::Laws::length_be), unfolding(crate::specs::Bytes::standing_bytes, writer::specs::Writing::put))]
+#[tactic(auto, using(writer::proofs::Laws::pieces), unfolding(crate::specs::Bytes::standing_bytes, writer::specs::Writing::put))]
 fn put_standing(buf: &mut [u8], at: usize, w: Witnessing, c: Config, transferable: bool) -> usize
     requires count_bound { w.witnesses.count ≤ 16 }
     requires count_bound_2 { c.count ≤ 8 }
@@ -150,7 +150,7 @@ fn put_standing(buf: &mut [u8], at: usize, w: Witnessing, c: Config, transferabl
     writer::byte(buf, r, u8::from(transferable))
 }
 
-#[tactic(auto, using(std::proofs::lemmas::Grind::common_steps, writer::proofs::Laws::over_append, crate::proofs::Size::tail_parts))]
+#[tactic(auto, using(writer::proofs::Laws::pieces, crate::proofs::Size::tail_parts))]
 fn put_tail(buf: &mut [u8], at: usize, s: KeyState) -> usize
     requires s_value { state_shape s ≡ 0 }
     requires room { Room (tail_bytes s) at buf.old }
@@ -161,7 +161,7 @@ fn put_tail(buf: &mut [u8], at: usize, s: KeyState) -> usize
     put_point(buf, p, s.last.sn, s.last.said)
 }
 
-#[tactic(auto, using(std::proofs::lemmas::Grind::common_steps), unfolding(crate::specs::Saved::body_bytes, writer::specs::Writing::put))]
+#[tactic(auto, using(writer::proofs::Laws::pieces), unfolding(crate::specs::Saved::body_bytes, writer::specs::Writing::put))]
 fn put_body(buf: &mut [u8], at: usize, s: KeyState) -> usize
     requires s_value { state_shape s ≡ 0 }
     requires room { Room (body_bytes s) at buf.old }
@@ -212,7 +212,7 @@ fn body_size(s: KeyState) -> usize
 }
 
 // "A record is a two-byte ASCII mark, a u16 body length, the body": the first four bytes.
-#[tactic(auto, using(std::proofs::lemmas::Grind::common_steps, writer::proofs::Laws::length_be, crate::proofs::Size::frame_over), unfolding(writer::specs::Writing::put))]
+#[tactic(auto, using(writer::proofs::Laws::pieces, crate::proofs::Size::frame_over), unfolding(writer::specs::Writing::put))]
 fn put_frame(buf: &mut [u8], size: usize) -> usize
     requires { 4 ≤ length buf.old }
     ensures value { result ≡ 4 }
@@ -222,7 +222,7 @@ fn put_frame(buf: &mut [u8], size: usize) -> usize
     writer::number(buf, p, 2, size as u64)
 }
 
-#[tactic(auto, using(std::proofs::lemmas::Grind::common_steps, crate::proofs::Size::encoded_size, crate::proofs::Size::encoded_over))]
+#[tactic(auto, using(writer::proofs::Laws::pieces, crate::proofs::Size::encoded_size, crate::proofs::Size::encoded_over))]
 fn put_record(buf: &mut [u8], s: KeyState, size: usize)
     requires s_value { state_shape s ≡ 0 }
     requires size_value { size ≡ length (body_bytes s) }
@@ -235,7 +235,7 @@ fn put_record(buf: &mut [u8], s: KeyState, size: usize)
 
 // 3 or 4 for the state's own shape, 8 for an empty holder, 41 with the bytes needed for a buffer that is too short: then no
 // byte is touched. Otherwise the record's whole length.
-#[tactic(auto, using(std::proofs::lemmas::Grind::common_steps, crate::proofs::Size::encoded_size, answer::proofs::Results::refuses), unfolding(crate::specs::Saved::saved, state::specs::State::is_held, shape::specs::State::holder_shape))]
+#[tactic(auto, using(writer::proofs::Laws::pieces, crate::proofs::Size::encoded_size, answer::proofs::Results::refuses), unfolding(crate::specs::Saved::saved, state::specs::State::is_held, shape::specs::State::holder_shape))]
 pub fn save(h: Holder, buf: &mut [u8]) -> Result<usize, Refusal>
     ensures value { saved_as result ≡ (saved h buf.old).0 }
     ensures buf_after { buf.new ≡ (saved h buf.old).1 }
@@ -263,7 +263,7 @@ pub struct Loose {
     pub transferable: bool,
 }
 
-#[tactic(auto, using(std::proofs::lemmas::Grind::common_steps, writer::proofs::Laws::over_append, writer::proofs::Laws::over_cons), unfolding(crate::specs::Assembled::front_bytes, writer::specs::Writing::put))]
+#[tactic(auto, using(writer::proofs::Laws::pieces), unfolding(crate::specs::Assembled::front_bytes, writer::specs::Writing::put))]
 fn put_front(buf: &mut [u8], at: usize, x: Loose, point: &[u8], signers: &[u8]) -> usize
     requires { Room (front_bytes x.prefix point.now x.latest signers.now) at buf.old }
     ensures value { result ≡ at + length (front_bytes x.prefix point.now x.latest signers.now) }
@@ -275,7 +275,7 @@ fn put_front(buf: &mut [u8], at: usize, x: Loose, point: &[u8], signers: &[u8]) 
     writer::bytes(buf, r, signers)
 }
 
-#[tactic(auto, using(std::proofs::lemmas::Grind::common_steps, writer::proofs::Laws::over_append, crate::proofs::Size::back_parts), unfolding(writer::specs::Writing::put))]
+#[tactic(auto, using(writer::proofs::Laws::pieces, crate::proofs::Size::back_parts), unfolding(writer::specs::Writing::put))]
 fn put_back(buf: &mut [u8], at: usize, x: Loose, last: &[u8]) -> usize
     requires count_bound { x.witnessing.witnesses.count ≤ 16 }
     requires count_bound_2 { x.config.count ≤ 8 }
@@ -287,7 +287,7 @@ fn put_back(buf: &mut [u8], at: usize, x: Loose, last: &[u8]) -> usize
     writer::bytes(buf, p, last)
 }
 
-#[tactic(auto, using(crate::proofs::Assembled::all_fit, std::proofs::lemmas::Grind::common_steps, writer::proofs::Laws::length_be, crate::proofs::Size::framed_over, crate::proofs::Assembled::joined_parts, writer::proofs::Laws::over_append))]
+#[tactic(auto, using(writer::proofs::Laws::pieces, crate::proofs::Assembled::all_fit, crate::proofs::Size::framed_over, crate::proofs::Assembled::joined_parts))]
 fn put_joined(buf: &mut [u8], x: Loose, size: usize, point: &[u8], signers: &[u8], last: &[u8])
     requires last_value { fitting x point.now signers.now last.now ≡ true }
     requires size_value { size ≡ length (joined x point.now signers.now last.now) }
@@ -321,7 +321,7 @@ fn joined_size(x: Loose, point: &[u8], signers: &[u8], last: &[u8]) -> usize
 
 // 4 for counts and runs that no snapshot has, 41 with the bytes needed for a buffer that is too short: then no byte is touched.
 // Otherwise the record's whole length.
-#[tactic(auto, using(std::proofs::lemmas::Grind::common_steps, writer::proofs::Laws::length_be), unfolding(crate::specs::Assembled::assembled, crate::specs::Assembled::placed))]
+#[tactic(auto, using(writer::proofs::Laws::pieces), unfolding(crate::specs::Assembled::assembled, crate::specs::Assembled::placed))]
 pub fn assemble(
     x: Loose,
     point: &[u8],
@@ -346,7 +346,7 @@ pub fn assemble(
 
 // "sn, latest said" and the type of an interaction, over those that stand in a record; a run of another length, or a buffer
 // that has no such bytes, is left as it is.
-#[tactic(auto, using(std::proofs::lemmas::Grind::common_steps, writer::proofs::Laws::over_append), unfolding(crate::specs::Assembled::pointed, writer::specs::Writing::put))]
+#[tactic(auto, using(writer::proofs::Laws::pieces), unfolding(crate::specs::Assembled::pointed, writer::specs::Writing::put))]
 pub fn step(point: &[u8], buf: &mut [u8])
     ensures { buf.new ≡ pointed point.now buf.old }
 {

@@ -3,6 +3,7 @@
 --     wrote        what a total writer does where there is room
 --     Left         what is still to be written: `begin`, `fits`, `more`, `done`, `last` are all that a writer cites; `put_more`
 --                  where the piece is a total writer's
+--     pieces       for code that writes one piece behind another
 --     digits_..    a loop that writes digits from the last one, as those of a number in bytes
 use mathlib.Core.Path.{◌≡◌, refl, sym, ap, ◌∙◌}
 use mathlib.Core.List.{List, ◌∷◌, ◌++◌, append_assoc, []}
@@ -12,6 +13,7 @@ use native.Mathlib.Omega.{arith}
 use lib.ListN.{length, take, drop, set, length-append, length-take, length-drop, take-append-drop}
 use lib.Seq.{take-set-le, length-take-le, drop-drop, drop-append-add, take-append_seam}
 use borrow.Author.Tests.{le-leb}
+use Rattle.std.proofs.lemmas.Grind.{common_steps}
 use Rattle.std.proofs.lemmas.List.{drop-set}
 use Rattle.writer.specs.Writing.{be, over, Room, Wrote, put}
 
@@ -143,3 +145,6 @@ pub over_be_none : (at i x : ℕ) (b : List ℕ) → i ≤ 0 → over at (be i x
 over_be_none at i x b h =
     let z : i ≡ 0 = omega arith in
     rw (z, be_digits.none x) (over_none at b)
+
+-- for code that writes one piece behind another
+pub ruleset pieces = (common_steps, over_append, over_cons, length_be)
