@@ -3,18 +3,16 @@
 --     stepped-bytes, stepped-length             an interaction's point over a record is the record of the state that it makes
 use mathlib.Core.Path.{◌≡◌, refl, sym, ◌∙◌}
 use mathlib.Core.List.{List, ◌∷◌, ◌++◌, append_assoc, []}
-use mathlib.Core.Bool.{Bool, true, false, not}
-use Prim.Native.Nat.{ℕ, ◌+◌, ◌≤◌, ◌<◌}
+use mathlib.Core.Bool.{true}
+use Prim.Native.Nat.{ℕ, ◌+◌, ◌≤◌}
 use native.Mathlib.Omega.{arith}
 use lib.Dec.{leb}
 use lib.ListN.{length, drop, length-append}
 use lib.Seq.{drop_at}
 use mir.Val.{Val}
 use denote.Laws.{Is}
-use borrow.Author.Tests.{eq-eqb, ne_eqb, le-leb, lt-leb, leb-true, not-true, not-false}
-use Rattle.lists.specs.Lists.{both}
+use borrow.Author.Tests.{leb-true}
 use Rattle.lists.proofs.Facts.{both_true}
-use Rattle.answer.specs.Answer.{refused}
 use Rattle.config.proofs.Laws.{places-8}
 use Rattle.event.specs.declared.Head.{Head}
 use Rattle.state.specs.declared.KeyState.{KeyState}
@@ -24,7 +22,7 @@ use Rattle.snapshot.specs.declared.Loose.{Loose}
 use Rattle.writer.specs.Writing.{be, over}
 use Rattle.snapshot.specs.Bytes.{item_bytes, items_bytes}
 use Rattle.snapshot.specs.Saved.{point_bytes, group_bytes, head_bytes, tail_bytes, body_bytes, encoded, saved}
-use Rattle.snapshot.specs.Assembled.{framed, joined, front_bytes, back_bytes, loose_of, placed, fitting, assembled, pointed}
+use Rattle.snapshot.specs.Assembled.{framed, joined, front_bytes, back_bytes, loose_of, placed, fitting}
 use Rattle.snapshot.specs.contracts.Loose.{the_row}
 use Rattle.writer.proofs.Laws.{over_start, over_seam, length_be}
 use Rattle.snapshot.proofs.Size.{item_size, config_size, record-size}

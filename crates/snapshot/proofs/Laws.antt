@@ -1,5 +1,5 @@
 -- Values written one after another, and the bytes of a threshold. Assumes nothing.
---     each-..      a loop that writes the values of an array's used part
+--     each_..      a loop that writes values one after another
 use mathlib.Core.Path.{◌≡◌}
 use mathlib.Core.List.{List, ◌∷◌, ◌++◌, []}
 use Prim.Native.Nat.{ℕ, ◌+◌, ◌≤◌, ◌<◌}

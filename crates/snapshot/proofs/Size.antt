@@ -1,9 +1,9 @@
--- How many bytes the fields have. Assumes nothing.
-use mathlib.Core.Path.{◌≡◌, sym, ap, ◌∙◌}
+-- How many bytes the fields have, and the parts in which they are written. Assumes nothing.
+use mathlib.Core.Path.{◌≡◌, sym, ap}
 use mathlib.Core.List.{List, ◌∷◌, ◌++◌, [], append_assoc}
 use mathlib.Core.Bool.{Bool, true}
-use Prim.Native.Nat.{ℕ, zero, suc, ◌+◌, ◌*◌, ◌≤◌, ◌<◌}
-use borrow.Author.Tests.{eq-eqb, ne_eqb, le-leb, lt-leb}
+use Prim.Native.Nat.{ℕ, zero, suc, ◌+◌, ◌*◌, ◌≤◌}
+use borrow.Author.Tests.{eq-eqb, le-leb}
 use native.Mathlib.Nat.{mul-suc}
 use native.Mathlib.Omega.{arith}
 use lib.ListN.{length, take, length-append, length-take}
@@ -21,7 +21,7 @@ use Rattle.answer.specs.Answer.{refused}
 use Rattle.state.specs.declared.KeyState.{KeyState}
 use Rattle.state.specs.declared.Holder.{Holder}
 use Rattle.state.specs.State.{is_held}
-use Rattle.shape.specs.State.{state_shape, holder_shape}
+use Rattle.shape.specs.State.{holder_shape}
 use Rattle.writer.specs.Writing.{be, over}
 use Rattle.snapshot.specs.Bytes.{frame_bytes, words_bytes, item_bytes, each, items_bytes, counted, config_bytes, weight_bytes, threshold_bytes, standing_bytes}
 use Rattle.snapshot.specs.Assembled.{framed, back_bytes}
