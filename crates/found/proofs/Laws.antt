@@ -60,7 +60,7 @@ module _ (s : List ℕ) where
     sized : n ≡ body_length s
     sized = rw frame.0 at (pair_got s at n body pn).is
 
-    pub cut_in_body : length s - body < n → truncated ≡ first_of s
+    pub cut_in_body : length s < body + n → truncated ≡ first_of s
     unfolding first_of
     cut_in_body p =
         let f = frame in
@@ -68,7 +68,7 @@ module _ (s : List ℕ) where
         let q : length s < 4 + n = omega arith in
         rw (le-leb 4 (length s) l, ← sized, lt-leb (4 + n) (length s) q)
 
-    pub record_had : n ≤ length s - body → record_of mark (content_of mark (take (body + n - 4) (drop 4 s))) (body + n) ≡ first_of s
+    pub record_had : body + n ≤ length s → record_of mark (content_of mark (take (body + n - 4) (drop 4 s))) (body + n) ≡ first_of s
     unfolding first_of
     record_had p =
         let f = frame in

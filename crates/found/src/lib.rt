@@ -22,10 +22,15 @@ pub enum Content {
 
 // The marks: their two letters as a big-endian number.
 const IC: u16 = 0x4943;
+
 const RO: u16 = 0x524F;
+
 const IX: u16 = 0x4958;
+
 const DI: u16 = 0x4449;
+
 const DR: u16 = 0x4452;
+
 const KS: u16 = 0x4B53;
 
 // A body by its mark. "DI and DR delegated (body not read)"
@@ -69,10 +74,11 @@ pub fn first_record(s: &[u8]) -> Option<(u16, usize)>
     let Some((n, body)) = cursor::read_u16(s, at) else {
         return None;
     };
-    if s.len() - body < n as usize {
+    let next = body + n as usize;
+    if s.len() < next {
         return None;
     }
-    Some((mark, body + n as usize))
+    Some((mark, next))
 }
 
 // How many bytes the first record takes, refused or not; all of them where it is cut short.
