@@ -77,6 +77,8 @@ module _ (s : List ℕ) where
         let k : 4 + n - 4 ≡ n = omega arith in
         rw (body_place, le-leb 4 (length s) l, ← sized, le-leb (4 + n) (length s) q, ← (pair_got s 0 mark at pm).is, k)
 
+pub ruleset framing = (cut_in_mark, cut_in_length, body_place, body_within, cut_in_body, record_had)
+
 -- a record that is had has the frame's mark and length
 frame_told : (b : Bool) (m k n l : ℕ) (c d : Content) → record_of m c n ≡ pick b (record_of k d l) truncated → (m ≡ k) × (n ≡ l)
 frame_told true m k n l c d e = (cc, cc)
@@ -138,6 +140,8 @@ module _ (s : List ℕ) (some : length s ≡ 0 → ⊥) where
                 small = small;
                 scanned = record { next = n; is = sym (rw all_of at is) };
               }
+
+pub ruleset keeping = (state_empty, state_cut, state_other, state_refused, state_over, state_had, state_whole)
 
 -- ---- a buffer and how much of it is used
 module _ (buf : List ℕ) (used : ℕ) where

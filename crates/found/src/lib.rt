@@ -63,7 +63,7 @@ pub fn by_mark(mark: u16, s: &[u8]) -> Result<Content, Refusal>
 }
 
 // The mark, and where the next record starts; none where the bytes are cut short.
-#[tactic(auto, using(crate::proofs::Laws::cut_in_mark, crate::proofs::Laws::cut_in_length, crate::proofs::Laws::body_place, crate::proofs::Laws::body_within, crate::proofs::Laws::cut_in_body, crate::proofs::Laws::record_had))]
+#[tactic(auto, using(crate::proofs::Laws::framing))]
 pub fn first_record(s: &[u8]) -> Option<(u16, usize)>
     ensures result_value { first_is s.now result ≡ first_of s.now }
     ensures within { Within s.now result }
@@ -92,7 +92,7 @@ pub fn length(s: &[u8]) -> usize
 }
 
 // What a state's bytes hold. A body's own refusal comes before the 3 of bytes behind its record.
-#[tactic(auto, using(crate::proofs::Laws::state_empty, crate::proofs::Laws::state_cut, crate::proofs::Laws::state_other, crate::proofs::Laws::state_refused, crate::proofs::Laws::state_over, crate::proofs::Laws::state_had, crate::proofs::Laws::state_whole))]
+#[tactic(auto, using(crate::proofs::Laws::keeping))]
 pub fn in_bytes(s: &[u8]) -> Result<Option<StateMarks>, Refusal>
     ensures result_value { kept_is s.now result ≡ state_in s.now }
     ensures framed { Framed s.now result }
