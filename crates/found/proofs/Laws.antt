@@ -89,6 +89,9 @@ unfolding first_of
 first_told s m n c e = frame_told (both (leb 4 (length s)) (leb (4 + body_length s) (length s))) m (mark_of s) n (4 + body_length s) c _ e
 
 -- ---- what bytes hold
+all_of : (s : List ℕ) (next : ℕ) → next ≡ length s → take (next - 4) (drop 4 s) ≡ drop 4 s
+all_of s next end = take_all (next - 4) (drop 4 s) (rw (length-drop 4 s) (omega arith))
+
 pub state_empty : (s : List ℕ) → length s ≡ 0 → none 0 ≡ state_in s
 unfolding state_in
 state_empty s e = rw (eq-eqb (length s) 0 e)
@@ -123,23 +126,21 @@ module _ (s : List ℕ) (some : length s ≡ 0 → ⊥) where
         pub state_over : (next ≡ length s → ⊥) → none 3 ≡ state_in s
         state_over ne = rw (ne_eqb next (length s) ne) at (state_alone (got m n) is)
 
-        module _ (end : next ≡ length s) where
-          all_of : take (next - 4) (drop 4 s) ≡ drop 4 s
-          all_of = take_all (next - 4) (drop 4 s) (rw (length-drop 4 s) (omega arith))
+        pub state_had : next ≡ length s → one (holding (state_of (drop 4 s) m)) ≡ state_in s
+        state_had end = rw (eq-eqb next (length s) end, all_of s next end) at (state_alone (got m n) is)
 
-          pub state_had : one (holding (state_of (drop 4 s) m)) ≡ state_in s
-          state_had = rw (eq-eqb next (length s) end, all_of) at (state_alone (got m n) is)
-
-          pub state_whole : 4 ≤ next → Small s → Whole s m
-          state_whole four small =
-              let framed : (mark ≡ mark_of s) × (next ≡ 4 + body_length s) = first_told s mark next _ e in
-              record {
-                four = rw end at four;
-                marked = sym framed.0 ∙ ks;
-                sized = sym framed.1 ∙ end;
-                small = small;
-                scanned = record { next = n; is = sym (rw all_of at is) };
-              }
+-- nothing behind the record: it is all of the bytes
+pub state_whole : (s : List ℕ) (m : StateMarks) (n mark next : ℕ) → got m n ≡ snapshot_places (take (next - 4) (drop 4 s)) 0 → next ≡ length s → mark ≡ 0x4B53
+    → (4 ≤ next) × ((next ≤ length s) × Small s) → record_of mark (content_of mark (take (next - 4) (drop 4 s))) next ≡ first_of s → Whole s m
+state_whole s m n mark next is end ks within e =
+    let framed : (mark ≡ mark_of s) × (next ≡ 4 + body_length s) = first_told s mark next _ e in
+    record {
+      four = rw end at within.0;
+      marked = sym framed.0 ∙ ks;
+      sized = sym framed.1 ∙ end;
+      small = within.1.1;
+      scanned = record { next = n; is = sym (rw (all_of s next end) at is) };
+    }
 
 pub ruleset keeping = (state_empty, state_cut, state_other, state_refused, state_over, state_had, state_whole)
 
