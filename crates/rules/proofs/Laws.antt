@@ -6,14 +6,16 @@ use Prim.Native.Nat.{ℕ}
 use native.Mathlib.Omega.{arith}
 use lib.Dec.{eqb, leb}
 use lib.ListN.{length}
-use borrow.Author.Tests.{ne_eqb, eq-eqb}
 use Rattle.lists.specs.Lists.{pick}
 use Rattle.lists.proofs.Facts.{clash}
 use Rattle.number.specs.declared.Number.{Number}
 use Rattle.number.specs.Number.{small, same_number}
 use Rattle.answer.specs.declared.Answer.{Answer}
+use Rattle.answer.specs.declared.Refusal.{Refusal}
+use Rattle.answer.specs.Refusal.{answer_of}
+use Rattle.answer.proofs.Results.{refuses}
 use Rattle.answer.specs.Answer.{refused, accepted, first_refusal}
-use Rattle.answer.proofs.Laws.{Clean, clean_first, clean_unless, here, past, last}
+use Rattle.answer.proofs.Laws.{Clean, clean_first, clean_unless}
 use Rattle.item.specs.declared.Item.{Item}
 use Rattle.items.specs.declared.Items.{Items}
 use Rattle.items.specs.Items.{packed}
@@ -21,8 +23,7 @@ use Rattle.threshold.specs.declared.Threshold.{Threshold}
 use Rattle.threshold.specs.Threshold.{well_formed}
 use Rattle.threshold.proofs.Laws.{clean_form}
 use Rattle.authority.specs.Authority.{receipts}
-use Rattle.member_set.specs.declared.Change.{Change}
-use Rattle.member_set.specs.Members.{witness_faults, change_of}
+use Rattle.member_set.specs.Members.{Change, witness_faults, change_of}
 use Rattle.toad.specs.Toad.{witness_threshold}
 use Rattle.rules.specs.Rules.{genesis_sn, next_form_of, witness_stages, changed}
 
@@ -49,13 +50,7 @@ clean_receipts toad ps = by_test (eqb toad 0) (leb toad (length ps))
     by_test false true p = refl
     by_test false false p = clash (sym p)
 
--- ---- a change: nothing where it is refused
-pub change_stops : (x whole : Answer) (new : List Item) → x ≡ whole → (x.number ≡ 0 → ⊥) → record { answer = x; list = packed [] } ≡ changed whole new
-change_stops x whole new e ne = rw (← e, ne_eqb x.number 0 ne)
-
-pub change_goes : (x whole : Answer) (new : List Item) → x ≡ whole → x.number ≡ 0 → record { answer = x; list = packed new } ≡ changed whole new
-change_goes x whole new e z = rw (← e, eq-eqb x.number 0 z)
-
+-- ---- a change
 -- the new list where there is room for it
 abbrev roomed : Bool → List Item → Change
 roomed t new = pick t (record { answer = accepted; list = packed new }) (record { answer = refused 38 (length new) 0; list = packed [] })
@@ -68,49 +63,41 @@ room new e = by_test (leb (length new) 16) e
     by_test true p = refl
     by_test false p = absurd (omega (arith, p))
 
--- ---- a witness change, stage by stage: x found no fault, c is the change
-abbrev pub answer_of : Change → Answer
-answer_of c = c.answer
+-- a refusal says what the whole says
+pub change_stops : (r : Refusal) (whole : Answer) (new : List Item) → answer_of r ≡ whole → record { answer = answer_of r; list = packed [] } ≡ changed whole new
+change_stops r whole new e = rw (← e, refuses r)
 
-abbrev pub count_of : Change → ℕ
-count_of c = c.list.count
+-- ---- a witness change whose list was made: what is left is asked of the new list
+module _ (faults : Answer) (new : List Item) (toad : ℕ) (receipted : ℕ → Answer) (l : Items) (clean : accepted ≡ faults)
+    (made : record { answer = accepted; list = l } ≡ change_of new) where
+  is_new : l ≡ packed new
+  is_new = ap (λ (d : Change). d.list) made ∙ room new (rw (← made) refl)
 
-module _ (x faults : Answer) (new : List Item) (toad : ℕ) (receipted : ℕ → Answer) (ex : x ≡ faults) (c : Change) (ec : c ≡ change_of new) where
+  counts : l.count ≡ length new
+  counts = ap (λ (m : Items). m.count) is_new
+
   abbrev whole : Answer
   whole = first_refusal (witness_stages faults new toad receipted)
 
-  module _ (zx : x.number ≡ 0) where
-    pub no_room : (c.answer.number ≡ 0 → ⊥) → c.answer ≡ whole
-    no_room ne = here c.answer (change_of new).answer _ (ap answer_of ec) ne ∙ sym (past x faults _ ex zx)
+  made-first : whole ≡ first_refusal (witness_threshold toad (length new) ∷ receipted (length new) ∷ [])
+  unfolding first_refusal
+  made-first = rw (← clean, ← made)
 
-    module _ (zc : c.answer.number ≡ 0) where
-      is_new : c.list ≡ packed new
-      is_new = ap (λ (d : Change). d.list) ec ∙ room new (rw ec at zc)
+  pub toad_stops : (r : Refusal) → answer_of r ≡ witness_threshold toad l.count → record { answer = answer_of r; list = packed [] } ≡ changed whole new
+  unfolding first_refusal
+  toad_stops r e = change_stops r whole new (sym (made-first ∙ rw (← (e ∙ ap (witness_threshold toad) counts), refuses r)))
 
-      counts : c.list.count ≡ length new
-      counts = ap (λ (l : Items). l.count) is_new
+  module _ (good : accepted ≡ witness_threshold toad l.count) where
+    toad-first : whole ≡ first_refusal (receipted (length new) ∷ [])
+    unfolding first_refusal
+    toad-first = made-first ∙ rw (← (good ∙ ap (witness_threshold toad) counts))
 
-      after-room : (zs : List Answer) → first_refusal (faults ∷ (change_of new).answer ∷ zs) ≡ first_refusal zs
-      after-room zs = past x faults _ ex zx ∙ past c.answer (change_of new).answer zs (ap answer_of ec) zc
+    pub receipts_stop : (r : Refusal) → answer_of r ≡ receipted l.count → record { answer = answer_of r; list = packed [] } ≡ changed whole new
+    unfolding first_refusal
+    receipts_stop r e = change_stops r whole new (sym (toad-first ∙ rw (← (e ∙ ap receipted counts), refuses r)))
 
-      module _ (y : Answer) (ey : y ≡ witness_threshold toad c.list.count) where
-        toad_is : y ≡ witness_threshold toad (length new)
-        toad_is = ey ∙ ap (witness_threshold toad) counts
-
-        pub no_toad : (y.number ≡ 0 → ⊥) → y ≡ whole
-        no_toad ne = here y (witness_threshold toad (length new)) _ toad_is ne ∙ sym (after-room _)
-
-        module _ (zy : y.number ≡ 0) (z : Answer) (ez : z ≡ receipted c.list.count) where
-          receipts_is : z ≡ receipted (length new)
-          receipts_is = ez ∙ ap receipted counts
-
-          after_toad : (zs : List Answer) → first_refusal (faults ∷ (change_of new).answer ∷ witness_threshold toad (length new) ∷ zs) ≡ first_refusal zs
-          after_toad zs = after-room _ ∙ past y (witness_threshold toad (length new)) zs toad_is zy
-
-          pub no-receipts : (z.number ≡ 0 → ⊥) → z ≡ whole
-          no-receipts ne = here z (receipted (length new)) [] receipts_is ne ∙ sym (after_toad _)
-
-          pub rewitnesses : z.number ≡ 0 → Clean (receipted (length new)) → record { answer = z; list = c.list } ≡ changed whole new
-          rewitnesses zz clean =
-              ap (λ (l : Items). record { answer = z; list = l }) is_new
-              ∙ change_goes z whole new (last z (receipted (length new)) clean receipts_is ∙ sym (after_toad _)) zz
+    pub rewitnesses : accepted ≡ receipted l.count → record { answer = accepted; list = l } ≡ changed whole new
+    unfolding first_refusal
+    rewitnesses e =
+        let w : whole ≡ accepted = toad-first ∙ rw (← (e ∙ ap receipted counts)) in
+        rw (w, is_new)

@@ -1,11 +1,9 @@
 -- The checks in order, by document 01's 'The checks in order'. Each rule is a list of stages, and the first that refuses
 -- answers. What the signatures and receipts come to (27, 28, and 32 at a number of witnesses) is handed in, so that the same
 -- list serves lists of signatures and sets of places.
-use Rattle.std.specs.Prelude.{ℕ, List, [], ◌∷◌, true, eqb, length}
+use Rattle.std.specs.Prelude.{ℕ, List, [], ◌∷◌, true, Option, Some, None, eqb, length}
 use Rattle.lists.specs.Lists.{pick}
 use Rattle.number.specs.declared.Number.{Number}
-use Rattle.number.specs.declared.Successor.{Successor}
-use Rattle.number.specs.declared.Successor.TheVariants.{Of, Last}
 use Rattle.number.specs.Number.{small, same_number, next_of}
 use Rattle.answer.specs.declared.Answer.{Answer}
 use Rattle.answer.specs.Answer.{refused, accepted, refuse_if, refuse_unless, first_refusal, passes}
@@ -17,8 +15,7 @@ use Rattle.config.specs.declared.Config.{Config}
 use Rattle.config.specs.Config.{establishment_only}
 use Rattle.threshold.specs.Threshold.{well_formed}
 use Rattle.toad.specs.Toad.{witness_threshold}
-use Rattle.member_set.specs.declared.Change.{Change}
-use Rattle.member_set.specs.Members.{witness_faults, change_faults, updated, change_of}
+use Rattle.member_set.specs.Members.{Change, witness_faults, change_faults, updated, change_of}
 use Rattle.inception.specs.Identity.{identity}
 use Rattle.authority.specs.declared.Authority.{Authority}
 use Rattle.authority.specs.declared.Commitment.{Commitment}
@@ -31,9 +28,9 @@ abbrev pub identifier : Item → Head → Answer
 identifier prefix h = refuse_unless (same_item prefix h.prefix) (refused 33 0 0)
 
 -- 35's details: expected, actual
-abbrev pub follows : Successor → Number → Answer
-follows (Of expected) actual = refuse_unless (same_number expected actual) (record { number = 35; a = expected; b = actual })
-follows Last actual = refused 34 0 0
+abbrev pub follows : Option Number → Number → Answer
+follows (Some expected) actual = refuse_unless (same_number expected actual) (record { number = 35; a = expected; b = actual })
+follows None actual = refused 34 0 0
 
 abbrev pub prior : Item → Head → Answer
 prior said h = refuse_unless (same_item said h.prior) (refused 36 0 0)

@@ -2,145 +2,99 @@
 // (`judge`). The lists themselves are in specs/Rules.
 #![tactic(auto)]
 
-ghost use Rattle.std.specs.Prelude.{◌≡◌, []};
+ghost use Rattle.std.specs.Prelude.{◌≡◌};
 ghost use Rattle.number.specs.Number.{next_of};
-ghost use Rattle.answer.specs.Answer.{refused, refuse_unless, first_refusal};
+ghost use Rattle.answer.specs.Answer.{refuse_unless, first_refusal};
+ghost use Rattle.answer.specs.Refusal.{answer_of, answered};
 ghost use Rattle.item.specs.Item.{same_item};
-ghost use Rattle.items.specs.Items.{listed, packed};
-ghost use Rattle.member_set.specs.Members.{change_faults, updated};
+ghost use Rattle.items.specs.Items.{listed};
+ghost use Rattle.member_set.specs.Members.{change_faults, updated, change_as};
 ghost use Rattle.evidence.specs.Evidence.{receipted_on};
-ghost use Rattle.rules.specs.Rules.{follows, chains_onto, next_form_of, genesis_sn, genesis_head, witness_stages, changed, may_interact};
+ghost use Rattle.rules.specs.Rules.{follows, chains_onto, genesis_sn, genesis_head, witness_stages, changed, may_interact};
 
-use answer::Answer;
+use answer::Refusal;
 use config::Config;
 use event::Head;
 use evidence::Evidence;
 use item::{Item, Kind};
 use items::Items;
-use member_set::Change;
-use number::{Number, Successor};
+use number::Number;
 
 // 34 at the last number, whatever the event's number; 35 for any other that does not follow.
-fn follow(sn: Number, actual: Number) -> Answer
-    ensures { result ≡ follows (next_of sn) actual }
+#[tactic(auto, unfolding(number::specs::Number::same_number))]
+fn follow(sn: Number, actual: Number) -> Result<(), Refusal>
+    ensures { answered result ≡ follows (next_of sn) actual }
 {
-    let Successor::Of(expected) = number::next(sn) else {
-        return answer::refuse(34, 0, 0);
+    let Some(expected) = number::next(sn) else {
+        return Err(Refusal::SequenceNumberOverflow);
     };
-    if number::same(expected, actual) {
-        return answer::accept();
+    if expected != actual {
+        return Err(Refusal::OutOfOrder { expected, actual });
     }
-    Answer {
-        number: 35,
-        a: expected,
-        b: actual,
-    }
+    Ok(())
 }
 
-fn same_or_refuse(a: Item, b: Item, which: u8) -> Answer
-    ensures { result ≡ refuse_unless (same_item a b) (refused which 0 0) }
+fn same_or(a: Item, b: Item, refusal: Refusal) -> Result<(), Refusal>
+    ensures { answered result ≡ refuse_unless (same_item a b) (answer_of refusal) }
 {
     if item::same(a, b) {
-        return answer::accept();
+        Ok(())
+    } else {
+        Err(refusal)
     }
-    answer::refuse(which, 0, 0)
 }
 
-pub fn chain(prefix: Item, sn: Number, said: Item, h: Head) -> Answer
-    ensures { result ≡ chains_onto prefix sn said h }
+#[tactic(auto, using(answer::proofs::Results::refuses), unfolding(answer::specs::Answer::first_refusal, crate::specs::Rules::chains_onto))]
+pub fn chain(prefix: Item, sn: Number, said: Item, h: Head) -> Result<(), Refusal>
+    ensures { answered result ≡ chains_onto prefix sn said h }
 {
-    let own = h.prefix;
-    let x = same_or_refuse(prefix, own, 33);
-    if x.number != 0 {
-        return x;
-    }
-    let actual = h.sn;
-    let y = follow(sn, actual);
-    if y.number != 0 {
-        return y;
-    }
-    let prior = h.prior;
-    same_or_refuse(said, prior, 36)
+    same_or(prefix, h.prefix, Refusal::IdentifierMismatch)?;
+    follow(sn, h.sn)?;
+    same_or(said, h.prior, Refusal::PriorDigestMismatch)
 }
 
-// "next threshold if next is not empty": `form` is what its caller found of that threshold, by value or in place.
-pub fn next_form(next: usize, form: Answer) -> Answer
-    ensures { result ≡ next_form_of next form }
+#[tactic(auto, unfolding(number::specs::Number::same_number))]
+fn genesis_sn(sn: Number) -> Result<(), Refusal>
+    ensures { answered result ≡ genesis_sn sn }
 {
-    if next == 0 {
-        return answer::accept();
+    if sn != number::from_u64(0) {
+        return Err(Refusal::NonZeroGenesisSn { sn });
     }
-    form
-}
-
-fn genesis_sn(sn: Number) -> Answer
-    ensures { result ≡ genesis_sn sn }
-{
-    let zero = number::from_u64(0);
-    if number::same(sn, zero) {
-        return answer::accept();
-    }
-    Answer {
-        number: 11,
-        a: sn,
-        b: zero,
-    }
+    Ok(())
 }
 
 // 3 for a prefix that is none, then 11.
-pub fn genesis(prefix: Item, sn: Number) -> Answer
-    ensures { result ≡ genesis_head prefix sn }
+#[tactic(auto, using(answer::proofs::Results::refuses, threshold::proofs::Laws::no_details), unfolding(answer::specs::Answer::first_refusal))]
+pub fn genesis(prefix: Item, sn: Number) -> Result<(), Refusal>
+    ensures { answered result ≡ genesis_head prefix sn }
 {
-    let fault = item::shape(prefix, Kind::Prefix);
-    if fault != 0 {
-        return answer::refuse(fault, 0, 0);
-    }
+    item::shape(prefix, Kind::Prefix)?;
     genesis_sn(sn)
 }
 
-pub fn unchanged(x: Answer) -> Change
-    ensures { result ≡ record { answer = x; list = packed [] } }
-{
-    let none = items::empty();
-    Change {
-        answer: x,
-        list: none,
-    }
-}
-
 // 18 to 22; 38; 30 or 31; 32 of the resulting list.
-pub fn rewitnessed(current: Items, cuts: Items, adds: Items, toad: u32, v: Evidence) -> Change
-    ensures { result ≡ changed (first_refusal (witness_stages (change_faults (listed current) (listed cuts) (listed adds)) (updated (listed current) (listed cuts) (listed adds)) toad (receipted_on toad v))) (updated (listed current) (listed cuts) (listed adds)) }
+#[tactic(auto, using(answer::proofs::Results::refuses, crate::proofs::Laws::change_stops), unfolding(answer::specs::Answer::first_refusal))]
+pub fn rewitnessed(
+    current: Items,
+    cuts: Items,
+    adds: Items,
+    toad: u32,
+    v: Evidence,
+) -> Result<Items, Refusal>
+    ensures { change_as result ≡ changed (first_refusal (witness_stages (change_faults (listed current) (listed cuts) (listed adds)) (updated (listed current) (listed cuts) (listed adds)) toad (receipted_on toad v))) (updated (listed current) (listed cuts) (listed adds)) }
 {
-    let x = member_set::check_change(current, cuts, adds);
-    if x.number != 0 {
-        return unchanged(x);
-    }
-    let change = member_set::update(current, cuts, adds);
-    let made = change.answer;
-    if made.number != 0 {
-        return unchanged(made);
-    }
-    let list = change.list;
-    let y = toad::check_witness_threshold(toad, list.count);
-    if y.number != 0 {
-        return unchanged(y);
-    }
-    let z = evidence::receipted(toad, v, list.count);
-    if z.number != 0 {
-        return unchanged(z);
-    }
-    Change {
-        answer: z,
-        list: list,
-    }
+    member_set::check_change(current, cuts, adds)?;
+    let list = member_set::update(current, cuts, adds)?;
+    toad::check_witness_threshold(toad, list.count)?;
+    evidence::receipted(toad, v, list.count)?;
+    Ok(list)
 }
 
-pub fn only_establishment(config: Config) -> Answer
-    ensures { result ≡ may_interact config }
+pub fn only_establishment(config: Config) -> Result<(), Refusal>
+    ensures { answered result ≡ may_interact config }
 {
     if config::is_establishment_only(config) {
-        return answer::refuse(37, 0, 0);
+        return Err(Refusal::InteractionOnEstablishmentOnly);
     }
-    answer::accept()
+    Ok(())
 }
