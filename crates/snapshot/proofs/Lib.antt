@@ -7,4 +7,3 @@ pub mod Back
 pub mod Longest
 pub mod Whole
 pub mod Assembled
-pub mod Faults
