@@ -19,15 +19,14 @@ use Rattle.items.specs.declared.Items.{Items}
 use Rattle.items.specs.Items.{listed, packed}
 use Rattle.items.proofs.Laws.{listed-packed}
 use Rattle.toad.specs.Toad.{witness_threshold}
-use Rattle.member_set.specs.declared.Change.{Change}
-use Rattle.member_set.specs.Members.{repeat_from, absent, witness_faults, change_faults, joined, updated, change_of}
+use Rattle.member_set.specs.Members.{Change, repeat_from, absent, witness_faults, change_faults, joined, updated, change_of}
 use Rattle.verification.specs.Verification.{signatures, packed_sigers}
 use Rattle.event.specs.declared.Head.{Head}
 use Rattle.event.specs.declared.Ilk.TheVariants.{Inception, Rotation, Interaction}
 use Rattle.evidence.specs.declared.Evidence.{Evidence}
 use Rattle.evidence.specs.Evidence.{evidence_of, signed_on, receipted_on}
 use Rattle.rules.specs.Rules.{chains_onto, of_prefix, may_interact, interaction, rewitness, rotation}
-use Rattle.rules.proofs.Laws.{clean_receipts, change_stops, no_toad, no-receipts, rewitnesses}
+use Rattle.rules.proofs.Laws.{change_stops}
 use Rattle.reserved.proofs.Laws.{incepts}
 use Rattle.ingest.specs.Judgement.{incepted, rotates, interacts}
 use Rattle.ingest.proofs.Laws.{incept_lists, rotate_lists, interact_lists}
@@ -35,7 +34,7 @@ use Rattle.cursor.specs.Spans.{list_of, many_of}
 use Rattle.cursor.proofs.Laws.{list_length}
 use Rattle.field.specs.Field.{item_of, items_of, config_of}
 use Rattle.wire.specs.Wire.{sigers_of}
-use Rattle.parts.specs.declared.Listing.{Listing}
+use Rattle.cursor.specs.declared.Listing.{Listing}
 use Rattle.parts.specs.Parts.{head_of, body_of}
 use Rattle.record.specs.declared.TailMarks.{TailMarks}
 use Rattle.record.specs.declared.EventMarks.{EventMarks}
@@ -61,13 +60,10 @@ no_faults : accepted ≡ witness_faults 1 []
 unfolding witness_faults first_refusal repeat_from any
 no_faults = refl
 
-pub no-witnesses : (s : List ℕ) (n p : ℕ) → n ≡ 0 → accepted ≡ witness_faults 1 (listed (items_of s n p))
-no-witnesses s n p z = rw (nothing_at s n p z) no_faults
+pub no_witnesses : (s : List ℕ) (n p : ℕ) → n ≡ 0 → accepted ≡ witness_faults 1 (listed (items_of s n p))
+no_witnesses s n p z = rw (nothing_at s n p z) no_faults
 
--- ---- the same checks of the same parts
-pub chain_same : (p p' : Item) (sn : Number) (d d' : Item) (h h' : Head) → p ≡ p' → d ≡ d' → h ≡ h' → chains_onto p sn d h ≡ chains_onto p' sn d' h'
-chain_same p p' sn d d' h h' ep ed eh = rw (ep, ed, eh)
-
+-- ---- a rotation's opening
 -- a check and two groups of checks
 pub then_groups : (x : Answer) (ys zs : List Answer) → first_refusal (x ∷ first_refusal ys ∷ first_refusal zs ∷ []) ≡ first_refusal (x ∷ (ys ++ zs))
 then_groups x ys zs =
@@ -114,19 +110,15 @@ module _ (st : List ℕ) (sm : StateMarks) (s : List ℕ) (m : EventMarks) (keys
   interaction_at_lem = rw ew (interact_lists (state_of st sm) (event_of Interaction s m) v (gathered s m.tail keys 0 _ 0 v ev ek refl))
 
 -- ---- a rotation
-pub change_same : (l l' c c' a a' : Items) (toad : ℕ) (v : Evidence) → l ≡ l' → c ≡ c' → a ≡ a'
-    → changed_at (listed l) (listed c) (listed a) toad v ≡ changed_at (listed l') (listed c') (listed a') toad v
-change_same l l' c c' a a' toad v el ec ea = rw (el, ec, ea)
-
 -- no cuts and no additions leave the list as it is, without a fault
-all-kept : (xs : List Item) → filter (absent []) xs ≡ xs
+all_kept : (xs : List Item) → filter (absent []) xs ≡ xs
 unfolding filter any
-all-kept [] = refl
-all-kept (x ∷ xs) = ap (λ (ys : List Item). x ∷ ys) (all-kept xs)
+all_kept [] = refl
+all_kept (x ∷ xs) = ap (λ (ys : List Item). x ∷ ys) (all_kept xs)
 
-updated-same : (xs : List Item) → updated xs [] [] ≡ xs
+updated_same : (xs : List Item) → updated xs [] [] ≡ xs
 unfolding updated joined
-updated-same xs = all-kept xs
+updated_same xs = all_kept xs
 
 no_change_faults : (xs : List Item) → accepted ≡ change_faults xs [] []
 unfolding change_faults first_refusal repeat_from any
@@ -151,41 +143,16 @@ module _ (s : List ℕ) (n p : ℕ) where
   unfolding items_of
   listed_few = rw (listed-packed (many_of (item_of s) 33 16 s n p)) (few_at s n p)
 
-  pub listed-count : (items_of s n p).count ≡ length (listed (items_of s n p))
-  listed-count = ap (λ (l : Items). l.count) packed_at
+  pub listed_count : (items_of s n p).count ≡ length (listed (items_of s n p))
+  listed_count = ap (λ (l : Items). l.count) packed_at
 
-module _ (xs : List Item) (few : length xs ≤ 16) (toad : ℕ) (v : Evidence) where
-  abbrev unchanged_list : Change
-  unchanged_list = record { answer = accepted; list = packed xs }
-
-  has_room : unchanged_list ≡ change_of (updated xs [] [])
-  unfolding change_of
-  has_room = rw (updated-same xs, le-leb (length xs) 16 few)
-
-  module _ (n : ℕ) (en : n ≡ length xs) (x : Answer) (ex : x ≡ witness_threshold toad n) where
-    fits : x ≡ witness_threshold toad (length xs)
-    fits = ex ∙ ap (witness_threshold toad) en
-
-    pub same_toad : (x.number ≡ 0 → ⊥) → record { answer = x; list = packed [] } ≡ changed_at xs [] [] toad v
-    same_toad ne =
-        change_stops x _ (updated xs [] [])
-        (no_toad accepted (change_faults xs [] []) (updated xs [] []) toad (receipted_on toad v) (no_change_faults xs) unchanged_list has_room refl refl x fits ne)
-        ne
-
-    module _ (zx : x.number ≡ 0) (y : Answer) (ey : y ≡ receipted_on toad v n) where
-      seen : y ≡ receipted_on toad v (length xs)
-      seen = ey ∙ ap (receipted_on toad v) en
-
-      pub same-receipts : (y.number ≡ 0 → ⊥) → record { answer = y; list = packed [] } ≡ changed_at xs [] [] toad v
-      same-receipts ne =
-          change_stops y _ (updated xs [] [])
-          (no-receipts accepted (change_faults xs [] []) (updated xs [] []) toad (receipted_on toad v) (no_change_faults xs) unchanged_list has_room refl refl x fits zx y seen ne)
-          ne
-
-      pub same_goes : y.number ≡ 0 → record { answer = y; list = packed xs } ≡ changed_at xs [] [] toad v
-      same_goes zy =
-          rewitnesses accepted (change_faults xs [] []) (updated xs [] []) toad (receipted_on toad v) (no_change_faults xs) unchanged_list has_room refl refl x fits zx y seen zy
-          (clean_receipts toad _)
+  -- so no change is 30 or 31, then 32, of that list
+  pub unchanged_at : (toad : ℕ) (v : Evidence)
+      → changed (first_refusal (witnesses_at toad (items_of s n p).count v)) (listed (items_of s n p)) ≡ changed_at (listed (items_of s n p)) [] [] toad v
+  unfolding first_refusal change_of
+  unchanged_at toad v =
+      let xs = listed (items_of s n p) in
+      rw (listed_count, updated_same xs, ← no_change_faults xs, le-leb (length xs) 16 listed_few)
 
 pub no_change : (xs : List Item) (s : List ℕ) (cut added : Listing) (toad : ℕ) (v : Evidence) → both (eqb cut.count 0) (eqb added.count 0) ≡ true
     → changed_at xs [] [] toad v ≡ changed_at xs (listed (list_at s cut)) (listed (list_at s added)) toad v

@@ -9,8 +9,7 @@ use Rattle.items.specs.Items.{listed}
 use Rattle.threshold.specs.declared.Threshold.{Threshold}
 use Rattle.threshold.specs.Threshold.{well_formed}
 use Rattle.toad.specs.Toad.{witness_threshold}
-use Rattle.member_set.specs.Members.{witness_faults, change_faults, updated}
-use Rattle.member_set.specs.declared.Change.{Change}
+use Rattle.member_set.specs.Members.{Change, witness_faults, change_faults, updated}
 use Rattle.inception.specs.Identity.{identity}
 use Rattle.evidence.specs.declared.Evidence.{Evidence}
 use Rattle.evidence.specs.Evidence.{evidence_of, signed_on, exposed_on, receipted_on}
@@ -18,7 +17,7 @@ use Rattle.rules.specs.Rules.{chains_onto, genesis_head, next_form, next_form_of
 use Rattle.field.specs.Field.{item_of, items_of}
 use Rattle.threshold_field.specs.ThresholdField.{threshold_of}
 use Rattle.wire.specs.Wire.{sigers_of}
-use Rattle.parts.specs.declared.Listing.{Listing}
+use Rattle.cursor.specs.declared.Listing.{Listing}
 use Rattle.parts.specs.declared.HeadMarks.{HeadMarks}
 use Rattle.parts.specs.declared.QuorumMarks.{QuorumMarks}
 use Rattle.parts.specs.declared.SignersMarks.{SignersMarks}
