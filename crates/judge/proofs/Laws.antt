@@ -12,8 +12,11 @@ use Rattle.lists.specs.Lists.{pick, both, any, filter}
 use Rattle.lists.proofs.Facts.{both_true}
 use Rattle.number.specs.declared.Number.{Number}
 use Rattle.answer.specs.declared.Answer.{Answer}
+use Rattle.answer.specs.declared.Refusal.{Refusal}
+use Rattle.answer.specs.Refusal.{answer_of}
 use Rattle.answer.specs.Answer.{accepted, first_refusal}
 use Rattle.answer.proofs.Laws.{clean_first, last, grouped, tail_same}
+use Rattle.answer.proofs.Results.{refuses}
 use Rattle.item.specs.declared.Item.{Item}
 use Rattle.items.specs.declared.Items.{Items}
 use Rattle.items.specs.Items.{listed, packed}
@@ -25,7 +28,7 @@ use Rattle.event.specs.declared.Head.{Head}
 use Rattle.event.specs.declared.Ilk.TheVariants.{Inception, Rotation, Interaction}
 use Rattle.evidence.specs.declared.Evidence.{Evidence}
 use Rattle.evidence.specs.Evidence.{evidence_of, signed_on, receipted_on}
-use Rattle.rules.specs.Rules.{chains_onto, of_prefix, may_interact, interaction, rewitness, rotation}
+use Rattle.rules.specs.Rules.{chains_onto, of_prefix, may_interact, interaction, rewitness, rotation, changed, new_witnesses}
 use Rattle.rules.proofs.Laws.{change_stops}
 use Rattle.reserved.proofs.Laws.{incepts}
 use Rattle.ingest.specs.Judgement.{incepted, rotates, interacts}
@@ -78,22 +81,44 @@ gathered s t keys next keys' next' v e k n =
     ∙ ap₂ (λ (x y : ℕ). evidence_at s t x y) k n
     ∙ evidence_as keys' next' (sigers_of s t.sigs.count t.sigs.first) (sigers_of s t.receipts.count t.receipts.first)
 
--- ---- an inception
-module _ (s : List ℕ) (m : EventMarks) (prefix : Item) (keys next witnesses : ℕ) (v : Evidence)
+-- ---- checks in a row: the first refusal is theirs, and behind one that passed the others are
+stops : (r : Refusal) (x : Answer) (xs : List Answer) → answer_of r ≡ x → answer_of r ≡ first_refusal (x ∷ xs)
+unfolding first_refusal
+stops r x xs e = rw (← e, refuses r)
+
+goes_on : (x : Answer) (xs : List Answer) → accepted ≡ x → first_refusal (x ∷ xs) ≡ first_refusal xs
+unfolding first_refusal
+goes_on x xs e = rw (← e)
+
+-- ---- an inception from its groups of checks
+module _ (s : List ℕ) (m : EventMarks) (prefix : Item) (next witnesses : ℕ)
     (ep : prefix ≡ item_of s m.head.prefix)
-    (ek : keys ≡ (list_at s m.body.signers.authority.items).count)
     (en : next ≡ (list_at s m.body.signers.commitment.items).count)
-    (ew : witnesses ≡ (list_at s m.body.additions).count)
-    (ev : v ≡ evidence_at s m.tail keys 0) where
-  pub inception_at_lem : first_refusal (
-      first_refusal (start_at s m.head m.body prefix next witnesses m.tail.anchors)
-      ∷ first_refusal (keys_at s m.body.signers keys next v)
-      ∷ first_refusal (witnesses_at m.body.toad witnesses v)
-      ∷ []) ≡ of_prefix (item_of s m.head.prefix) (incepted (event_of Inception s m))
-  inception_at_lem =
+    (ew : witnesses ≡ (list_at s m.body.additions).count) where
+  abbrev start : List Answer
+  start = start_at s m.head m.body prefix next witnesses m.tail.anchors
+
+  abbrev begins : Answer
+  begins = of_prefix (item_of s m.head.prefix) (incepted (event_of Inception s m))
+
+  inception_at_lem : (keys : ℕ) (v : Evidence) → keys ≡ (list_at s m.body.signers.authority.items).count → v ≡ evidence_at s m.tail keys 0
+      → first_refusal (first_refusal start ∷ first_refusal (keys_at s m.body.signers keys next v) ∷ first_refusal (witnesses_at m.body.toad witnesses v) ∷ []) ≡ begins
+  inception_at_lem keys v ek ev =
       rw (ep, ek, en, ew)
       (incepts (head_of s m.head) (body_of s m.body) m.tail.anchors (signed_on (threshold_at s m.body.signers.authority) v) (receipted_on m.body.toad v)
       ∙ ap (of_prefix (item_of s m.head.prefix)) (incept_lists (event_of Inception s m) v (gathered s m.tail keys 0 _ 0 v ev ek refl)))
+
+  pub start_stops : (r : Refusal) → answer_of r ≡ first_refusal start → answer_of r ≡ begins
+  start_stops r e = stops r _ _ e ∙ inception_at_lem _ _ refl refl
+
+  module _ (keys : ℕ) (v : Evidence) (began : accepted ≡ first_refusal start)
+      (ek : keys ≡ (list_at s m.body.signers.authority.items).count) (ev : v ≡ evidence_at s m.tail keys 0) where
+    pub keys_stop : (r : Refusal) → answer_of r ≡ first_refusal (keys_at s m.body.signers keys next v) → answer_of r ≡ begins
+    keys_stop r e = stops r _ _ e ∙ sym (goes_on _ _ began) ∙ inception_at_lem keys v ek ev
+
+    pub witnesses_answer : accepted ≡ first_refusal (keys_at s m.body.signers keys next v) → (x : Answer) → x ≡ first_refusal (witnesses_at m.body.toad witnesses v) → x ≡ begins
+    witnesses_answer good x e =
+        last x _ (clean_first (witnesses_at m.body.toad witnesses v)) e ∙ sym (goes_on _ _ good) ∙ sym (goes_on _ _ began) ∙ inception_at_lem keys v ek ev
 
 -- ---- an interaction
 module _ (st : List ℕ) (sm : StateMarks) (s : List ℕ) (m : EventMarks) (keys witnesses : ℕ) (v : Evidence)
@@ -166,13 +191,26 @@ module _ (st : List ℕ) (sm : StateMarks) (s : List ℕ) (m : EventMarks) where
   abbrev pub rewitness_in : Evidence → Answer
   rewitness_in v = rewitness_at (listed (list_at st sm.body.additions)) (listed (list_at s m.body.removals)) (listed (list_at s m.body.additions)) m.body.toad v
 
-  pub rotation_at_lem : (keys next : ℕ) (v : Evidence)
-      → keys ≡ (list_at s m.body.signers.authority.items).count
-      → next ≡ (list_at st sm.body.signers.commitment.items).count
-      → v ≡ evidence_at s m.tail keys next
-      → first_refusal (first_refusal (opening_at st sm s m keys v) ∷ rewitness_in v ∷ []) ≡ rotates (state_of st sm) (event_of Rotation s m)
-  unfolding rotation rewitness
-  rotation_at_lem keys next v ek en ev =
-      grouped (opening_at st sm s m keys v) (rewitness_in v ∷ [])
-      ∙ ap (λ (n : ℕ). first_refusal (opening_at st sm s m n v ++ (rewitness_in v ∷ []))) ek
-      ∙ rotate_lists (state_of st sm) (event_of Rotation s m) v (gathered s m.tail keys next _ _ v ev ek en)
+  abbrev turns : Answer
+  turns = rotates (state_of st sm) (event_of Rotation s m)
+
+  abbrev new : List Item
+  new = new_witnesses (state_of st sm) (body_of s m.body)
+
+  module _ (keys next : ℕ) (v : Evidence)
+      (ek : keys ≡ (list_at s m.body.signers.authority.items).count)
+      (en : next ≡ (list_at st sm.body.signers.commitment.items).count)
+      (ev : v ≡ evidence_at s m.tail keys next) where
+    rotation_at_lem : first_refusal (first_refusal (opening_at st sm s m keys v) ∷ rewitness_in v ∷ []) ≡ turns
+    unfolding rotation rewitness
+    rotation_at_lem =
+        grouped (opening_at st sm s m keys v) (rewitness_in v ∷ [])
+        ∙ ap (λ (n : ℕ). first_refusal (opening_at st sm s m n v ++ (rewitness_in v ∷ []))) ek
+        ∙ rotate_lists (state_of st sm) (event_of Rotation s m) v (gathered s m.tail keys next _ _ v ev ek en)
+
+    pub opening_stops : (r : Refusal) → answer_of r ≡ first_refusal (opening_at st sm s m keys v) → record { answer = answer_of r; list = packed [] } ≡ changed turns new
+    opening_stops r e = change_stops r turns new (stops r _ _ e ∙ rotation_at_lem)
+
+    pub rewitness_answers : accepted ≡ first_refusal (opening_at st sm s m keys v) → changed (rewitness_in v) new ≡ changed turns new
+    rewitness_answers e =
+        ap (λ (w : Answer). changed w new) (last (rewitness_in v) (rewitness_in v) (clean_first _) refl ∙ sym (goes_on _ _ e) ∙ rotation_at_lem)

@@ -108,7 +108,7 @@ fn check_witnesses(toad: u32, witnesses: usize, v: Evidence) -> Result<(), Refus
 }
 
 // 29 has no check: 12 to 15 come first (reserved/proofs/Laws).
-#[tactic(auto, using(answer::proofs::Results::refuses, crate::proofs::Laws::inception_at_lem), unfolding(answer::specs::Answer::first_refusal))]
+#[tactic(auto, using(crate::proofs::Laws::start_stops, crate::proofs::Laws::keys_stop, crate::proofs::Laws::witnesses_answer))]
 pub fn incept(s: &[u8], m: EventMarks) -> Result<(), Refusal>
     ensures { answered result ≡ of_prefix (item_of s.now m.head.prefix) (incepted (event_of Inception s.now m)) }
 {
@@ -174,7 +174,7 @@ fn rotation_keys(
 }
 
 // No change has no fault and always has room: 30 or 31; 32 of the list as it stands.
-#[tactic(auto, using(crate::proofs::Laws::same_goes, crate::proofs::Laws::same_stops))]
+#[tactic(auto, using(answer::proofs::Results::refuses, crate::proofs::Laws::unchanged_at, crate::proofs::Laws::packed_at))]
 fn same_witnesses(st: &[u8], old: Listing, toad: u32, v: Evidence) -> Result<Items, Refusal>
     ensures { change_as result ≡ changed_at (listed (list_at st.now old)) [] [] toad v }
 {
@@ -208,7 +208,7 @@ fn rewitness(
     rules::rewitnessed(current, cuts, adds, b.toad, v)
 }
 
-#[tactic(auto, using(answer::proofs::Results::refuses, crate::proofs::Laws::rotation_at_lem), unfolding(answer::specs::Answer::first_refusal))]
+#[tactic(auto, using(crate::proofs::Laws::opening_stops, crate::proofs::Laws::rewitness_answers))]
 pub fn rotate(st: &[u8], sm: StateMarks, s: &[u8], m: EventMarks) -> Result<Items, Refusal>
     ensures { change_as result ≡ changed (rotates (state_of st.now sm) (event_of Rotation s.now m)) (new_witnesses (state_of st.now sm) (body_of s.now m.body)) }
 {
@@ -219,7 +219,7 @@ pub fn rotate(st: &[u8], sm: StateMarks, s: &[u8], m: EventMarks) -> Result<Item
     rewitness(st, sm.body.additions, s, m.body, v)
 }
 
-#[tactic(auto, using(answer::proofs::Results::refuses, crate::proofs::Laws::interaction_at_lem), unfolding(answer::specs::Answer::first_refusal))]
+#[tactic(auto, using(answer::proofs::Results::refuses, crate::proofs::Laws::interaction_at_lem), unfolding(answer::specs::Answer::first_refusal, rules::specs::Rules::interaction))]
 pub fn interact(st: &[u8], sm: StateMarks, s: &[u8], m: EventMarks) -> Result<(), Refusal>
     ensures { answered result ≡ interacts (state_of st.now sm) (event_of Interaction s.now m) }
 {
