@@ -36,6 +36,8 @@ function fact(f,    cut, left, right, words, n) {
 # fact, or (fact) × (fact)
 function ensured(text,    facts, n, i) {
     gsub(/^ +| +$/, "", text)
+    # of every number
+    sub(/^\([a-z]+ : ℕ\) → /, "", text)
     # one fact of several of which only some need hold, or one of some value
     if (text ~ /→|↔|⊎|∨|¬|≢|∥|⌝| : /) return
     n = split(text, facts, /\) × \(/)
@@ -90,6 +92,27 @@ function one(crate,    params, gives, n, clause, p, ensures) {
     else known[name] = known[name] != "not there" ? "there twice" : told == "" ? "tight" : "loose"
 }
 
+# What an impl's `ghost f_gives = { λ x r. r ≡ DEFINITION }` says of its f, as an `ensures` of f.
+function told_of_methods(block,    clause, f, last, n) {
+    while (match(block, /ghost +[a-z_]+_gives *= *\{ *λ [^.{}]*\. [^{}]*\};/)) {
+        clause = substr(block, RSTART, RLENGTH)
+        block = substr(block, 1, RSTART - 1) substr(block, RSTART + RLENGTH)
+        f = clause
+        sub(/^ghost +/, "", f)
+        sub(/_gives.*/, "", f)
+        last = clause
+        sub(/\. .*/, "", last)
+        sub(/.* /, "", last)
+        sub(/^[^.]*\. +/, "", clause)
+        sub(/ *\};$/, "", clause)
+        if (index(clause, last " ≡ ") == 1 && !has(substr(clause, length(last) + 1), last)) clause = "result" substr(clause, length(last) + 1)
+        if (!match(block, "[^A-Za-z0-9_]fn +" f "\\([^{}]*\\{")) continue
+        n = RSTART + RLENGTH - 2
+        block = substr(block, 1, n) "ensures { " clause " } " substr(block, n + 1)
+    }
+    return block
+}
+
 # A method of a public trait, or of an impl of a trait, is public with no word pub: it gets one.
 function open_methods(    before, head, n, block) {
     before = ""
@@ -98,7 +121,7 @@ function open_methods(    before, head, n, block) {
         before = before substr(all, 1, RSTART + RLENGTH - 2)
         all = substr(all, RSTART + RLENGTH - 1)
         n = run(all, "{", "}")
-        block = substr(all, 1, n)
+        block = told_of_methods(substr(all, 1, n))
         if (head ~ /^.pub/ || head ~ / for /) gsub(/ fn +/, " pub fn ", block)
         before = before block
         all = substr(all, n + 1)

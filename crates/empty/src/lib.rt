@@ -1,55 +1,35 @@
 // A holder of nothing: where every run begins.
 #![tactic(auto)]
 
-ghost use Rattle.std.specs.Prelude.{◌≡◌, []};
-ghost use Rattle.items.specs.Items.{packed};
+ghost use Rattle.std.specs.Prelude.{◌≡◌};
 ghost use Rattle.state.specs.State.{no_threshold};
 ghost use Rattle.empty.specs.Empty.{nothing};
 
 use authority::{Authority, Commitment, Witnessing};
 use config::Config;
-use item::Item;
-use items::Items;
 use state::{EstablishmentRef, Holder, KeyState};
 use threshold::Threshold;
 use weight::Weight;
 
-fn no_items() -> Items
-    ensures { result ≡ packed [] }
-{
-    let none = Item {
-        code: 0,
-        raw: [0; 32],
-    };
-    Items {
-        count: 0,
-        at: [none; 16],
-    }
-}
-
 fn no_threshold() -> Threshold
     ensures { result ≡ no_threshold }
 {
-    let none = Weight { num: 0, den: 0 };
     Threshold {
         tag: 0,
         simple: 0,
         clauses: 0,
         sizes: [0; 16],
-        weights: [none; 16],
+        weights: [Weight { num: 0, den: 0 }; 16],
     }
 }
 
 pub fn nothing() -> Holder
     ensures { result ≡ nothing }
 {
-    let items = no_items();
+    let items = items::empty();
     let threshold = no_threshold();
     let zero = number::from_u64(0);
-    let none = Item {
-        code: 0,
-        raw: [0; 32],
-    };
+    let none = item::zero();
     let state = KeyState {
         prefix: none,
         sn: zero,

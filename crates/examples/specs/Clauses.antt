@@ -1,10 +1,9 @@
 -- Document 02, request 2, part by part: which clause a judgement names, and that 27 and 28 pass it on; said of the definitions
 -- that the contracts cite.
-use Rattle.std.specs.Prelude.{◌≡◌, true, List, [], ◌∷◌, ℕ, replicate}
+use Rattle.std.specs.Prelude.{◌≡◌, true, List, [], ◌∷◌, Ok, ℕ, replicate}
 use Rattle.answer.specs.Answer.{refused, accepted}
 use Rattle.threshold.specs.declared.Threshold.{Threshold}
-use Rattle.threshold.specs.declared.Judgement.TheVariants.{Met, Short}
-use Rattle.threshold.specs.Threshold.{clause_named}
+use Rattle.threshold.specs.Threshold.{short, clause_named}
 use Rattle.authority.specs.Authority.{quorum, signed_by, exposed_by}
 use Rattle.examples.specs.Starred.{◌/w◌, weighted, simple, entries, yes, no, signed}
 
@@ -28,11 +27,11 @@ pub record Clauses : Type 0 where
   pub empty_clause : entries (weighted ((1 /w 1 ∷ []) ∷ [] ∷ (1 /w 1 ∷ []) ∷ [])) (0 ∷ []) ≡ no 2
   -- "or 0 where there is none to name (satisfied, a simple threshold, no clauses, or a list not strictly rising)"
   pub satisfied : entries group (0 ∷ 1 ∷ 3 ∷ 4 ∷ []) ≡ yes
-  pub satisfied_0 : clause_named Met ≡ 0
+  pub satisfied_0 : clause_named (Ok tt) ≡ 0
   pub simple_0 : entries (simple 2) (0 ∷ []) ≡ no 0
   pub no_clauses_0 : entries (weighted []) (0 ∷ []) ≡ no 0
-  pub not_rising_0 : entries group (1 ∷ 0 ∷ []) ≡ (Short 0, Short 2)
-  pub twice_0 : entries group (0 ∷ 0 ∷ []) ≡ (Short 0, Short 1)
+  pub not_rising_0 : entries group (1 ∷ 0 ∷ []) ≡ (short 0, short 2)
+  pub twice_0 : entries group (0 ∷ 0 ∷ []) ≡ (short 0, short 1)
   -- "The signature and commitment counts pass it on: b of 27 and 28 is this number from now on."
   pub b_of_27 : quorum 27 group (0 ∷ 1 ∷ 4 ∷ []) ≡ refused 27 3 2
   pub b_of_27_simple : quorum 27 (simple 2) (0 ∷ []) ≡ refused 27 1 0

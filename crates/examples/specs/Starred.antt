@@ -1,17 +1,14 @@
 -- Document 01, 'Both sides of the line': the lines marked *, in its order and its words, said of the definitions that the
 -- contracts cite. A no of a threshold names its clause (document 02, request 2).
-use Rattle.std.specs.Prelude.{◌≡◌, Bool, true, false, List, [], ◌∷◌, ◌++◌, map, ℕ, ◌-◌, ◌^◌, length, replicate}
+use Rattle.std.specs.Prelude.{◌≡◌, Bool, true, false, List, [], ◌∷◌, ◌++◌, map, Some, None, Ok, ℕ, ◌-◌, ◌^◌, length, replicate}
 use Rattle.lists.specs.Lists.{padded}
-use Rattle.number.specs.declared.Successor.TheVariants.{Of, Last}
 use Rattle.number.specs.Number.{words, next_of}
 use Rattle.item.specs.declared.Item.{Item}
 use Rattle.weight.specs.declared.Weight.{Weight}
 use Rattle.threshold.specs.declared.Threshold.{Threshold}
-use Rattle.threshold.specs.declared.Judgement.{Judgement}
-use Rattle.threshold.specs.declared.Judgement.TheVariants.{Met, Short}
+use Rattle.threshold.specs.Threshold.{Judgement, short}
 use Rattle.satisfied.specs.Satisfied.{satisfied_by_sorted_unique, satisfied_by}
-use Rattle.toad.specs.declared.Taken.{Taken}
-use Rattle.toad.specs.Toad.{taken, not_taken, ample_answer, exact_answer}
+use Rattle.toad.specs.Toad.{Taken, taken, not_taken, ample_answer, exact_answer}
 use Rattle.member_set.specs.Members.{updated}
 use Rattle.verification.specs.declared.Siger.{Siger}
 use Rattle.verification.specs.Verification.{verified_places, exposed_places, counted_of}
@@ -43,11 +40,11 @@ abbrev pub entries : Threshold → List ℕ → Judgement × Judgement
 entries t ps = (satisfied_by_sorted_unique t ps, satisfied_by t ps)
 
 abbrev pub yes : Judgement × Judgement
-yes = (Met, Met)
+yes = (Ok tt, Ok tt)
 
 -- the first unsatisfied clause, counted from 1, or 0
 abbrev pub no : ℕ → Judgement × Judgement
-no clause = (Short clause, Short clause)
+no clause = (short clause, short clause)
 
 abbrev exactly : ℕ × ℕ → Taken
 exactly c = exact_answer c.0 c.1
@@ -98,13 +95,13 @@ pub record Starred : Type 0 where
   -- "Simple 2 with places 0, 5: yes."
   pub simple_two : map (entries (simple 2)) ((0 ∷ 5 ∷ []) ∷ []) ≡ yes ∷ []
   -- "Simple 1 with list 2, 0: sorted entry no, other entry yes."
-  pub unsorted : map (entries (simple 1)) ((2 ∷ 0 ∷ []) ∷ []) ≡ (Short 0, Met) ∷ []
+  pub unsorted : map (entries (simple 1)) ((2 ∷ 0 ∷ []) ∷ []) ≡ (short 0, Ok tt) ∷ []
   -- "`exact`: 0 of 0 and 3 of 3 yes; 1 of 0, 0 of 1, 4 of 3 no."
   pub exact : map exactly ((0, 0) ∷ (3, 3) ∷ (1, 0) ∷ (0, 1) ∷ (4, 3) ∷ []) ≡ taken 0 ∷ taken 3 ∷ not_taken 40 1 0 ∷ not_taken 40 0 1 ∷ not_taken 40 4 3 ∷ []
   -- "`ample` as listed above": "Witnesses 0 to 7 give 0, 1, 2, 3, 3, 4, 4, 5; 10 gives 7; 16 gives 11."
   pub ample : map ample_answer (0 ∷ 1 ∷ 2 ∷ 3 ∷ 4 ∷ 5 ∷ 6 ∷ 7 ∷ 10 ∷ 16 ∷ []) ≡ map taken (0 ∷ 1 ∷ 2 ∷ 3 ∷ 3 ∷ 4 ∷ 4 ∷ 5 ∷ 7 ∷ 11 ∷ [])
   -- "After 2^64-1 comes high 1, low 0; 2^128-1 has no next number."
-  pub next : map next_of (words (2 ^ 64 - 1) ∷ words (2 ^ 128 - 1) ∷ []) ≡ Of (record { high = 1; low = 0 }) ∷ Last ∷ []
+  pub next : map next_of (words (2 ^ 64 - 1) ∷ words (2 ^ 128 - 1) ∷ []) ≡ Some (record { high = 1; low = 0 }) ∷ None ∷ []
   -- "Current A, B, C, cut B, add D: A, C, D. Fold of A with additions A, D, D: A, D."
   pub members : updated (A ∷ B ∷ C ∷ []) (B ∷ []) (D ∷ []) ∷ updated (A ∷ []) [] (A ∷ D ∷ D ∷ []) ∷ [] ≡ (A ∷ C ∷ D ∷ []) ∷ (A ∷ D ∷ []) ∷ []
   -- "Two verified signatures, index 0, ondexes 0 and 1, both digests yes: 2 exposed."

@@ -14,7 +14,7 @@ use Rattle.item.specs.declared.Item.{Item}
 use Rattle.item.specs.declared.Kind.TheVariants.{Prefix}
 use Rattle.item.specs.Item.{item_fits}
 use Rattle.items.specs.Items.{packed}
-use Rattle.member_set.specs.declared.Change.{Change}
+use Rattle.member_set.specs.Members.{Change}
 use Rattle.verification.specs.Verification.{signatures}
 use Rattle.evidence.specs.declared.Evidence.{Evidence}
 use Rattle.evidence.specs.Evidence.{evidence_of, signed_on, exposed_on, receipted_on}

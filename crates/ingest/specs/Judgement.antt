@@ -1,9 +1,11 @@
 -- Demand 2's definition: what an event gets, for every holder and every event. The lists of checks are in rules/specs/Rules,
 -- the sets of places in verification/specs/Verification, the next states in state/specs/State.
-use Rattle.std.specs.Prelude.{ℕ, [], ◌∷◌}
+use Rattle.std.specs.Prelude.{ℕ, [], ◌∷◌, Result, Ok, Err}
 use Rattle.lists.specs.Lists.{pick}
 use Rattle.answer.specs.declared.Answer.{Answer}
-use Rattle.answer.specs.Answer.{refused, first_refusal, passes}
+use Rattle.answer.specs.declared.Refusal.{Refusal}
+use Rattle.answer.specs.Answer.{refused, accepted, first_refusal, passes}
+use Rattle.answer.specs.Refusal.{answer_of}
 use Rattle.items.specs.Items.{packed}
 use Rattle.verification.specs.Verification.{signatures}
 use Rattle.authority.specs.Authority.{signed_by, exposed_by, receipted_by}
@@ -84,6 +86,11 @@ next_state s e = next_as e.ilk s e
 -- "Every refusal leaves state and buffers untouched."
 abbrev pub settled : Holder → Answer → Holder → Offered
 settled before x after = record { answer = x; holder = pick (passes x) after before }
+
+-- the same of what a check gives: the next state, or its refusal
+abbrev pub settled_as : Holder → Result KeyState Refusal → Offered
+settled_as before (Ok s) = record { answer = accepted; holder = holding s }
+settled_as before (Err r) = record { answer = answer_of r; holder = before }
 
 -- a refusal with no details
 abbrev pub turned_away : Holder → ℕ → Offered

@@ -4,19 +4,15 @@
 ghost use Rattle.std.specs.Prelude.{◌≡◌, true};
 ghost use Rattle.item.specs.Item.{item_fits};
 ghost use Rattle.item.specs.declared.Kind.TheVariants.{Prefix};
-ghost use Rattle.items.specs.Items.{packed};
-ghost use Rattle.verification.specs.Verification.{signatures};
-ghost use Rattle.evidence.specs.Evidence.{evidence_of, signed_on, exposed_on, receipted_on};
-ghost use Rattle.state.specs.State.{holding, seeded, rotated, stepped};
-ghost use Rattle.rules.specs.Rules.{of_prefix, inception, rotation, interaction, new_witnesses};
-ghost use Rattle.answer.specs.Answer.{refused};
 ghost use Rattle.event.specs.declared.Ilk.TheVariants.{Inception, Rotation, Interaction};
+ghost use Rattle.state.specs.declared.Holder.{Holder};
+ghost use Rattle.state.specs.declared.KeyState.{KeyState};
+ghost use Rattle.state.specs.State.{holding, seeded};
 ghost use Rattle.shape.specs.Event.{event_shape};
-ghost use Rattle.ingest.specs.Judgement.{settled, on_nothing, where_live, on_state, judgement, next_as, next_state, offered};
+ghost use Rattle.ingest.specs.Judgement.{settled, settled_as, on_nothing, where_live, on_state, judgement, answer_to, next_as, next_state, offered};
 
-use answer::Answer;
-use event::{Body, Event, Head, Ilk};
-use evidence::Evidence;
+use answer::{Answer, Refusal};
+use event::{Event, Ilk};
 use state::{Holder, KeyState};
 
 // The answer, and the holder after it: as it came, where the event is refused.
@@ -27,176 +23,102 @@ pub struct Offered {
 }
 
 // "Every refusal leaves state and buffers untouched."
-fn keep(h: Holder, x: Answer) -> Offered
-    ensures { result ≡ record { answer = x; holder = h } }
+pub fn settle(before: Holder, next: Result<KeyState, Refusal>) -> Offered
+    ensures { result ≡ settled_as before next }
 {
-    Offered {
-        answer: x,
-        holder: h,
+    match next {
+        Ok(s) => Offered {
+            answer: answer::accept(),
+            holder: state::hold(s),
+        },
+        Err(r) => Offered {
+            answer: Answer::from(r),
+            holder: before,
+        },
     }
 }
 
-// A refusal with no details. "Every refusal leaves state and buffers untouched."
-pub fn refuse(h: Holder, which: u8) -> Offered
-    ensures { result ≡ record { answer = refused which 0 0; holder = h } }
-{
-    let x = answer::refuse(which, 0, 0);
-    keep(h, x)
-}
-
-fn take(s: KeyState, x: Answer) -> Offered
-    ensures { result ≡ record { answer = x; holder = holding s } }
-{
-    let h = state::hold(s);
-    keep(h, x)
-}
-
-// An inception on sets of places: its own keys sign, its own witnesses receipt.
-fn incept(before: Holder, h: Head, b: Body, anchors: u32, v: Evidence) -> Offered
-    ensures { result ≡ settled before (of_prefix h.prefix (inception h b anchors (signed_on b.authority.threshold v) (receipted_on b.toad v))) (holding (seeded h b)) }
-{
-    let x = judge_structs::incept(h, b, anchors, v);
-    if x.number != 0 {
-        return keep(before, x);
-    }
-    let zero = number::from_u64(0);
-    let s = state::begin(zero, h, b);
-    take(s, x)
-}
-
-// A rotation on sets of places: the keys that it brings sign, the state's commitment is exposed, the new witnesses receipt.
-fn rotate(before: Holder, h: Head, b: Body, v: Evidence) -> Offered
-    ensures { result ≡ settled before (rotation before.state h b (signed_on b.authority.threshold v) (exposed_on before.state.commitment.threshold v) (receipted_on b.toad v)) (holding (rotated before.state h b (packed (new_witnesses before.state b)))) }
-{
-    let old = before.state;
-    let change = judge_structs::rotate(old, h, b, v);
-    let x = change.answer;
-    if x.number != 0 {
-        return keep(before, x);
-    }
-    let list = change.list;
-    let s = state::rotate(old, h, b, list);
-    take(s, x)
-}
-
-// An interaction on sets of places: the state's keys sign, the state's witnesses receipt.
-fn interact(before: Holder, h: Head, v: Evidence) -> Offered
-    ensures { result ≡ settled before (interaction before.state h (signed_on before.state.authority.threshold v) (receipted_on before.state.witnessing.toad v)) (holding (stepped before.state h)) }
-{
-    let old = before.state;
-    let x = judge_structs::interact(old, h, v);
-    if x.number != 0 {
-        return keep(before, x);
-    }
-    let s = state::step(old, h);
-    take(s, x)
-}
-
-fn gather(e: Event, keys: usize, next: usize) -> Evidence
-    ensures { result ≡ evidence_of keys next (signatures e.sigs) (signatures e.receipts) }
-{
-    let sigs = e.sigs;
-    let receipts = e.receipts;
-    evidence::gather(sigs, receipts, keys, next)
-}
-
-fn offer_inception(before: Holder, e: Event) -> Offered
+// Its own keys sign, its own witnesses receipt.
+fn inception(e: Event) -> Result<KeyState, Refusal>
     requires { item_fits Prefix e.head.prefix ≡ true }
-    ensures { result ≡ settled before (on_nothing Inception e) (holding (seeded e.head e.body)) }
+    ensures { (before : Holder) → settled_as before result ≡ settled before (on_nothing Inception e) (holding (seeded e.head e.body)) }
 {
-    let h = e.head;
-    let b = e.body;
-    let own = b.authority;
-    let keys = own.keys;
-    let v = gather(e, keys.count, 0);
-    incept(before, h, b, e.anchors, v)
+    let v = evidence::gather(e.sigs, e.receipts, e.body.authority.keys.count, 0);
+    judge_structs::incept(e.head, e.body, e.anchors, v)?;
+    Ok(state::begin(number::from_u64(0), e.head, e.body))
 }
 
-fn offer_rotation(before: Holder, e: Event) -> Offered
-    ensures { result ≡ settled before (where_live Rotation before.state e) (holding (next_as Rotation before.state e)) }
+// The keys that it brings sign, the state's commitment is exposed, the new witnesses receipt.
+fn rotation(s: KeyState, e: Event) -> Result<KeyState, Refusal>
+    ensures { (before : Holder) → settled_as before result ≡ settled before (where_live Rotation s e) (holding (next_as Rotation s e)) }
 {
-    let h = e.head;
-    let b = e.body;
-    let own = b.authority;
-    let keys = own.keys;
-    let old = before.state;
-    let committed = old.commitment;
-    let next = committed.next;
-    let v = gather(e, keys.count, next.count);
-    rotate(before, h, b, v)
+    let keys = e.body.authority.keys.count;
+    let next = s.commitment.next.count;
+    let v = evidence::gather(e.sigs, e.receipts, keys, next);
+    let witnesses = judge_structs::rotate(s, e.head, e.body, v)?;
+    Ok(state::rotate(s, e.head, e.body, witnesses))
 }
 
-fn offer_interaction(before: Holder, e: Event) -> Offered
-    ensures { result ≡ settled before (where_live Interaction before.state e) (holding (next_as Interaction before.state e)) }
+// The state's keys sign, the state's witnesses receipt.
+fn interaction(s: KeyState, e: Event) -> Result<KeyState, Refusal>
+    ensures { (before : Holder) → settled_as before result ≡ settled before (where_live Interaction s e) (holding (next_as Interaction s e)) }
 {
-    let h = e.head;
-    let old = before.state;
-    let own = old.authority;
-    let keys = own.keys;
-    let v = gather(e, keys.count, 0);
-    interact(before, h, v)
+    let v = evidence::gather(e.sigs, e.receipts, s.authority.keys.count, 0);
+    judge_structs::interact(s, e.head, v)?;
+    Ok(state::step(s, e.head))
 }
 
-fn on_nothing(before: Holder, e: Event) -> Offered
+fn on_nothing(e: Event) -> Result<KeyState, Refusal>
     requires { event_shape e ≡ 0 }
-    ensures { result ≡ settled before (on_nothing e.ilk e) (holding (next_state before.state e)) }
+    ensures { (before : Holder) (s : KeyState) → settled_as before result ≡ settled before (on_nothing e.ilk e) (holding (next_state s e)) }
 {
-    let ilk = e.ilk;
-    match ilk {
-        Ilk::Inception => offer_inception(before, e),
-        Ilk::Rotation => refuse(before, 8),
-        Ilk::Interaction => refuse(before, 8),
-        Ilk::DelegatedInception => refuse(before, 6),
-        Ilk::DelegatedRotation => refuse(before, 8),
+    match e.ilk {
+        Ilk::Inception => inception(e),
+        Ilk::Rotation => Err(Refusal::NotInception),
+        Ilk::Interaction => Err(Refusal::NotInception),
+        Ilk::DelegatedInception => Err(Refusal::EvidenceRequired),
+        Ilk::DelegatedRotation => Err(Refusal::NotInception),
     }
 }
 
-fn on_live(before: Holder, e: Event) -> Offered
-    ensures { result ≡ settled before (where_live e.ilk before.state e) (holding (next_state before.state e)) }
+fn on_state(s: KeyState, e: Event) -> Result<KeyState, Refusal>
+    ensures { (before : Holder) → settled_as before result ≡ settled before (on_state s e) (holding (next_state s e)) }
 {
-    let ilk = e.ilk;
-    match ilk {
-        Ilk::Inception => refuse(before, 9),
-        Ilk::Rotation => offer_rotation(before, e),
-        Ilk::Interaction => offer_interaction(before, e),
-        Ilk::DelegatedInception => refuse(before, 6),
-        Ilk::DelegatedRotation => refuse(before, 7),
+    if !s.transferable {
+        return Err(Refusal::NonTransferableState);
+    }
+    match e.ilk {
+        Ilk::Inception => Err(Refusal::DuplicateInception),
+        Ilk::Rotation => rotation(s, e),
+        Ilk::Interaction => interaction(s, e),
+        Ilk::DelegatedInception => Err(Refusal::EvidenceRequired),
+        Ilk::DelegatedRotation => Err(Refusal::DelegatorUnknown),
     }
 }
 
-fn on_state(before: Holder, e: Event) -> Offered
-    ensures { result ≡ settled before (on_state before.state e) (holding (next_state before.state e)) }
-{
-    let s = before.state;
-    let live = s.transferable;
-    if !live {
-        return refuse(before, 10);
-    }
-    on_live(before, e)
-}
-
-fn judge(before: Holder, e: Event) -> Offered
+fn judge(h: Holder, e: Event) -> Result<KeyState, Refusal>
     requires { event_shape e ≡ 0 }
-    ensures { result ≡ settled before (judgement before e) (holding (next_state before.state e)) }
+    ensures { (before : Holder) → settled_as before result ≡ settled before (judgement h e) (holding (next_state h.state e)) }
 {
-    let held = before.held;
-    if !held {
-        return on_nothing(before, e);
+    if h.held {
+        on_state(h.state, e)
+    } else {
+        on_nothing(e)
     }
-    on_state(before, e)
 }
 
-// The entry: "state first, then record", then the judgement.
+// "state first, then record", then the judgement.
+fn next(h: Holder, e: Event) -> Result<KeyState, Refusal>
+    ensures { (before : Holder) → settled_as before result ≡ settled before (answer_to h e) (holding (next_state h.state e)) }
+{
+    shape::of_holder(h)?;
+    shape::of_event(e)?;
+    judge(h, e)
+}
+
+#[tactic(auto, unfolding(crate::specs::Judgement::offered))]
 pub fn offer(before: Holder, e: Event) -> Offered
     ensures { result ≡ offered before e }
 {
-    let n = shape::of_holder(before);
-    if n != 0 {
-        return refuse(before, n);
-    }
-    let m = shape::of_event(e);
-    if m != 0 {
-        return refuse(before, m);
-    }
-    judge(before, e)
+    settle(before, next(before, e))
 }

@@ -69,7 +69,7 @@ fn put_numeral(buf: &mut [u8], at: usize, base: u64, most: usize, n: u64) -> usi
     put_digits(buf, at, base, width, n)
 }
 
-#[tactic(auto, using(std::proofs::lemmas::Grind::common_steps, writer::proofs::Laws::over_append), unfolding(crate::specs::Lines::decimal_then, crate::specs::Lines::decimal, writer::specs::Writing::put))]
+#[tactic(auto, using(writer::proofs::Laws::pieces), unfolding(crate::specs::Lines::decimal_then, crate::specs::Lines::decimal, writer::specs::Writing::put))]
 fn put_decimal(buf: &mut [u8], at: usize, n: u64, behind: u8) -> usize
     requires { Room (decimal_then behind n) at buf.old }
     ensures value { result ≡ at + length (decimal_then behind n) }
@@ -80,7 +80,7 @@ fn put_decimal(buf: &mut [u8], at: usize, n: u64, behind: u8) -> usize
 }
 
 // Two words: the high one without leading zeros, then all of the low one's digits.
-#[tactic(auto, using(std::proofs::lemmas::Grind::common_steps, crate::proofs::Laws::detail_short, crate::proofs::Laws::detail_long, writer::proofs::Laws::over_append))]
+#[tactic(auto, using(writer::proofs::Laws::pieces, crate::proofs::Laws::detail_short, crate::proofs::Laws::detail_long))]
 fn put_words(buf: &mut [u8], at: usize, x: Number) -> usize
     requires { Room (detail x) at buf.old }
     ensures value { result ≡ at + length (detail x) }
@@ -93,7 +93,7 @@ fn put_words(buf: &mut [u8], at: usize, x: Number) -> usize
     put_digits(buf, p, 16, 16, x.low)
 }
 
-#[tactic(auto, using(std::proofs::lemmas::Grind::common_steps, writer::proofs::Laws::over_append), unfolding(crate::specs::Lines::detail_then, writer::specs::Writing::put))]
+#[tactic(auto, using(writer::proofs::Laws::pieces), unfolding(crate::specs::Lines::detail_then, writer::specs::Writing::put))]
 fn put_detail(buf: &mut [u8], at: usize, x: Number, behind: u8) -> usize
     requires { Room (detail_then behind x) at buf.old }
     ensures value { result ≡ at + length (detail_then behind x) }
@@ -124,7 +124,7 @@ fn put_mark(buf: &mut [u8], at: usize, number: u8, mark: u16, behind: u8) -> usi
     writer::bytes(buf, at, &[first, second, behind])
 }
 
-#[tactic(auto, using(std::proofs::lemmas::Grind::common_steps, writer::proofs::Laws::over_append), unfolding(crate::specs::Lines::line))]
+#[tactic(auto, using(writer::proofs::Laws::pieces), unfolding(crate::specs::Lines::line))]
 fn put_answer(buf: &mut [u8], at: usize, ordinal: u64, mark: u16, x: Answer) -> usize
     requires { Room (line ordinal mark x) at buf.old }
     ensures value { result ≡ at + length (line ordinal mark x) }
@@ -150,7 +150,7 @@ fn put_reached(buf: &mut [u8], at: usize, held: bool, sn: Number, behind: u8) ->
     put_detail(buf, at, sn, behind)
 }
 
-#[tactic(auto, using(std::proofs::lemmas::Grind::common_steps, writer::proofs::Laws::over_append, crate::proofs::Laws::end_length, crate::proofs::Laws::end_over), unfolding(writer::specs::Writing::put))]
+#[tactic(auto, using(writer::proofs::Laws::pieces, crate::proofs::Laws::end_length, crate::proofs::Laws::end_over), unfolding(writer::specs::Writing::put))]
 fn put_counts(
     buf: &mut [u8],
     at: usize,

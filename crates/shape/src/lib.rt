@@ -1,227 +1,136 @@
 // The shape of structs: before anything else a struct entry looks at the state, then at the event, each in field order.
-#![tactic(auto)]
+// BadField where a place is outside its class, TooMany where a list counts above its limit.
+#![tactic(auto, using(answer::proofs::Results::refuses), unfolding(answer::specs::Answer::first_fault, state::specs::State::is_held, crate::specs::Event::first_head, crate::specs::Event::later_head, crate::specs::Event::own_shape, crate::specs::Event::next_shape, crate::specs::Event::body_shape, crate::specs::Event::signed_shape, crate::specs::Event::event_shape, crate::specs::State::state_head, crate::specs::State::state_tail, crate::specs::State::state_shape, crate::specs::State::holder_shape))]
 
 ghost use Rattle.std.specs.Prelude.{◌≡◌};
+ghost use Rattle.answer.specs.Refusal.{fault_of};
 ghost use Rattle.event.specs.declared.Ilk.TheVariants.{Inception, Rotation, Interaction};
 ghost use Rattle.shape.specs.Event.{first_head, later_head, own_shape, next_shape, body_shape, signed_shape, shape_as, event_shape};
 ghost use Rattle.shape.specs.State.{latest_shape, state_head, state_tail, state_shape, holder_shape};
 
+use answer::Refusal;
 use authority::{Authority, Commitment};
 use event::{Body, Event, Head, Ilk};
 use item::Kind;
 use state::{Holder, KeyState};
 
-fn first_head(h: Head) -> u8
-    ensures { result ≡ first_head h }
+fn first_head(h: Head) -> Result<(), Refusal>
+    ensures { fault_of result ≡ first_head h }
 {
-    let prefix = h.prefix;
-    let n = item::shape(prefix, Kind::Prefix);
-    if n != 0 {
-        return n;
-    }
-    let said = h.said;
-    item::shape(said, Kind::Said)
+    item::shape(h.prefix, Kind::Prefix)?;
+    item::shape(h.said, Kind::Said)
 }
 
-fn later_head(h: Head) -> u8
-    ensures { result ≡ later_head h }
+fn later_head(h: Head) -> Result<(), Refusal>
+    ensures { fault_of result ≡ later_head h }
 {
-    let n = first_head(h);
-    if n != 0 {
-        return n;
-    }
-    let prior = h.prior;
-    item::shape(prior, Kind::Said)
+    first_head(h)?;
+    item::shape(h.prior, Kind::Said)
 }
 
-fn own_shape(a: Authority) -> u8
-    ensures { result ≡ own_shape a }
+fn own_shape(a: Authority) -> Result<(), Refusal>
+    ensures { fault_of result ≡ own_shape a }
 {
-    let keys = a.keys;
-    let n = items::shape(keys, Kind::Key);
-    if n != 0 {
-        return n;
-    }
-    let t = a.threshold;
-    threshold::shape(t)
+    items::shape(a.keys, Kind::Key)?;
+    threshold::shape(a.threshold)
 }
 
-fn next_shape(c: Commitment) -> u8
-    ensures { result ≡ next_shape c }
+fn next_shape(c: Commitment) -> Result<(), Refusal>
+    ensures { fault_of result ≡ next_shape c }
 {
-    let next = c.next;
-    let n = items::shape(next, Kind::Said);
-    if n != 0 {
-        return n;
-    }
-    let t = c.threshold;
-    threshold::shape(t)
+    items::shape(c.next, Kind::Said)?;
+    threshold::shape(c.threshold)
 }
 
-fn body_shape(b: Body) -> u8
-    ensures { result ≡ body_shape b }
+fn body_shape(b: Body) -> Result<(), Refusal>
+    ensures { fault_of result ≡ body_shape b }
 {
-    let own = b.authority;
-    let n = own_shape(own);
-    if n != 0 {
-        return n;
-    }
-    let next = b.commitment;
-    let m = next_shape(next);
-    if m != 0 {
-        return m;
-    }
-    let additions = b.additions;
-    items::shape(additions, Kind::Key)
+    own_shape(b.authority)?;
+    next_shape(b.commitment)?;
+    items::shape(b.additions, Kind::Key)
 }
 
-fn signed_shape(e: Event) -> u8
-    ensures { result ≡ signed_shape e }
+fn signed_shape(e: Event) -> Result<(), Refusal>
+    ensures { fault_of result ≡ signed_shape e }
 {
-    let sigs = e.sigs;
-    let n = verification::shape(sigs);
-    if n != 0 {
-        return n;
-    }
-    let receipts = e.receipts;
-    verification::shape(receipts)
+    verification::shape(e.sigs)?;
+    verification::shape(e.receipts)
 }
 
-fn inception_shape(e: Event) -> u8
-    ensures { result ≡ shape_as Inception e }
+fn inception_shape(e: Event) -> Result<(), Refusal>
+    ensures { fault_of result ≡ shape_as Inception e }
 {
-    let h = e.head;
-    let n = first_head(h);
-    if n != 0 {
-        return n;
-    }
-    let b = e.body;
-    let m = body_shape(b);
-    if m != 0 {
-        return m;
-    }
-    let c = b.config;
-    let k = config::shape(c);
-    if k != 0 {
-        return k;
-    }
+    first_head(e.head)?;
+    body_shape(e.body)?;
+    config::shape(e.body.config)?;
     signed_shape(e)
 }
 
-fn rotation_shape(e: Event) -> u8
-    ensures { result ≡ shape_as Rotation e }
+fn rotation_shape(e: Event) -> Result<(), Refusal>
+    ensures { fault_of result ≡ shape_as Rotation e }
 {
-    let h = e.head;
-    let n = later_head(h);
-    if n != 0 {
-        return n;
-    }
-    let b = e.body;
-    let m = body_shape(b);
-    if m != 0 {
-        return m;
-    }
-    let removals = b.removals;
-    let k = items::shape(removals, Kind::Key);
-    if k != 0 {
-        return k;
-    }
+    later_head(e.head)?;
+    body_shape(e.body)?;
+    items::shape(e.body.removals, Kind::Key)?;
     signed_shape(e)
 }
 
-fn interaction_shape(e: Event) -> u8
-    ensures { result ≡ shape_as Interaction e }
+fn interaction_shape(e: Event) -> Result<(), Refusal>
+    ensures { fault_of result ≡ shape_as Interaction e }
 {
-    let h = e.head;
-    let n = later_head(h);
-    if n != 0 {
-        return n;
-    }
+    later_head(e.head)?;
     signed_shape(e)
 }
 
-pub fn of_event(e: Event) -> u8
-    ensures { result ≡ event_shape e }
+pub fn of_event(e: Event) -> Result<(), Refusal>
+    ensures { fault_of result ≡ event_shape e }
 {
-    let ilk = e.ilk;
-    match ilk {
+    match e.ilk {
         Ilk::Inception => inception_shape(e),
         Ilk::Rotation => rotation_shape(e),
         Ilk::Interaction => interaction_shape(e),
-        Ilk::DelegatedInception => 0,
-        Ilk::DelegatedRotation => 0,
+        Ilk::DelegatedInception | Ilk::DelegatedRotation => Ok(()),
     }
 }
 
 // "latest type (0 IC, 1 RO, 2 IX)"
-fn latest_shape(latest: u8) -> u8
-    ensures { result ≡ latest_shape latest }
+fn latest_shape(latest: u8) -> Result<(), Refusal>
+    ensures { fault_of result ≡ latest_shape latest }
 {
-    if latest <= 2 { 0 } else { 3 }
+    if latest <= 2 {
+        Ok(())
+    } else {
+        Err(Refusal::BadField)
+    }
 }
 
-fn state_head(s: KeyState) -> u8
-    ensures { result ≡ state_head s }
+fn state_head(s: KeyState) -> Result<(), Refusal>
+    ensures { fault_of result ≡ state_head s }
 {
-    let prefix = s.prefix;
-    let n = item::shape(prefix, Kind::Prefix);
-    if n != 0 {
-        return n;
-    }
-    let said = s.said;
-    let m = item::shape(said, Kind::Said);
-    if m != 0 {
-        return m;
-    }
+    item::shape(s.prefix, Kind::Prefix)?;
+    item::shape(s.said, Kind::Said)?;
     latest_shape(s.latest)
 }
 
-fn state_tail(s: KeyState) -> u8
-    ensures { result ≡ state_tail s }
+fn state_tail(s: KeyState) -> Result<(), Refusal>
+    ensures { fault_of result ≡ state_tail s }
 {
-    let w = s.witnessing;
-    let witnesses = w.witnesses;
-    let n = items::shape(witnesses, Kind::Key);
-    if n != 0 {
-        return n;
-    }
-    let c = s.config;
-    let m = config::shape(c);
-    if m != 0 {
-        return m;
-    }
-    let last = s.last;
-    let said = last.said;
-    item::shape(said, Kind::Said)
+    items::shape(s.witnessing.witnesses, Kind::Key)?;
+    config::shape(s.config)?;
+    item::shape(s.last.said, Kind::Said)
 }
 
-pub fn of_state(s: KeyState) -> u8
-    ensures { result ≡ state_shape s }
+pub fn of_state(s: KeyState) -> Result<(), Refusal>
+    ensures { fault_of result ≡ state_shape s }
 {
-    let n = state_head(s);
-    if n != 0 {
-        return n;
-    }
-    let own = s.authority;
-    let m = own_shape(own);
-    if m != 0 {
-        return m;
-    }
-    let next = s.commitment;
-    let k = next_shape(next);
-    if k != 0 {
-        return k;
-    }
+    state_head(s)?;
+    own_shape(s.authority)?;
+    next_shape(s.commitment)?;
     state_tail(s)
 }
 
-pub fn of_holder(h: Holder) -> u8
-    ensures { result ≡ holder_shape h }
+pub fn of_holder(h: Holder) -> Result<(), Refusal>
+    ensures { fault_of result ≡ holder_shape h }
 {
-    let held = h.held;
-    if !held {
-        return 0;
-    }
-    let s = h.state;
-    of_state(s)
+    if h.held { of_state(h.state) } else { Ok(()) }
 }

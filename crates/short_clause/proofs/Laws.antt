@@ -11,13 +11,12 @@ use native.Mathlib.Omega.{arith}
 use lib.Dec.{eqb, leb}
 use lib.ListN.{length}
 use borrow.Author.Tests.{eqb-true, eqb-false, eq-eqb, not-true, not-false}
-use Rattle.std.specs.Prelude.{Option, Some, None}
+use Rattle.std.specs.Prelude.{Option, Some, None, Ok}
 use Rattle.lists.specs.Lists.{pick, both, first_from}
 use Rattle.lists.proofs.Facts.{clash, first_at, FirstAt}
 use Rattle.answer.specs.declared.Answer.{Answer}
 use Rattle.threshold.specs.declared.Threshold.{Threshold}
-use Rattle.threshold.specs.declared.Judgement.TheVariants.{Met, Short}
-use Rattle.threshold.specs.Threshold.{is_simple, shape_of, short_at, judged, judged_by, is_met, clause_named, satisfied}
+use Rattle.threshold.specs.Threshold.{is_simple, shape_of, short, short_at, judged, judged_by, is_met, clause_named, satisfied}
 use Rattle.satisfied.specs.Satisfied.{rising, satisfied_by_sorted_unique}
 use Rattle.authority.specs.Authority.{quorum}
 use Rattle.short_clause.specs.ShortClause.{by_clause, FirstUnsatisfied, NoneToName, NoneToNameIn, Tells, Refuses}
@@ -42,7 +41,7 @@ module _ (t : Threshold) (places : List ℕ) where
   unfolding judged
   of_simple e = rw e (by_test (leb t.simple (length places)))
     where
-      by_test : (b : Bool) → clause_named (pick b Met (Short 0)) ≡ 0
+      by_test : (b : Bool) → clause_named (pick b (Ok tt) (short 0)) ≡ 0
       by_test true = refl
       by_test false = refl
 
@@ -55,7 +54,7 @@ module _ (t : Threshold) (places : List ℕ) where
   of_clauses f e c g = rw (e, c, g)
 
   -- of a clause that was found nothing of 'none to name' holds
-  some_named : (n : ℕ) → is_simple t ≡ false → eqb t.clauses 0 ≡ false → judged_by t places ≡ Short n → NoneToName t places → ⊥
+  some_named : (n : ℕ) → is_simple t ≡ false → eqb t.clauses 0 ≡ false → judged_by t places ≡ short n → NoneToName t places → ⊥
   some_named n e c j (inl met) = clash (sym met ∙ ap is_met j)
   some_named n e c j (inr (inl simple)) = clash (sym simple ∙ e)
   some_named n e c j (inr (inr none)) = clash (sym (eq-eqb t.clauses 0 none) ∙ c)
@@ -81,7 +80,7 @@ module _ (t : Threshold) (ps : List ℕ) where
   abbrev listed : ℕ
   listed = clause_named (satisfied_by_sorted_unique t ps)
 
-  of_list : (good rises : Bool) → eqb (shape_of t) 0 ≡ good → rising ps ≡ rises → satisfied_by_sorted_unique t ps ≡ pick (both good rises) (judged_by t ps) (Short 0)
+  of_list : (good rises : Bool) → eqb (shape_of t) 0 ≡ good → rising ps ≡ rises → satisfied_by_sorted_unique t ps ≡ pick (both good rises) (judged_by t ps) (short 0)
   unfolding satisfied_by_sorted_unique
   of_list good rises e r = rw (e, r)
 

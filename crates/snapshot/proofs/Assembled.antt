@@ -3,18 +3,16 @@
 --     stepped-bytes, stepped-length             an interaction's point over a record is the record of the state that it makes
 use mathlib.Core.Path.{◌≡◌, refl, sym, ◌∙◌}
 use mathlib.Core.List.{List, ◌∷◌, ◌++◌, append_assoc, []}
-use mathlib.Core.Bool.{Bool, true, false, not}
-use Prim.Native.Nat.{ℕ, ◌+◌, ◌≤◌, ◌<◌}
+use mathlib.Core.Bool.{true}
+use Prim.Native.Nat.{ℕ, ◌+◌, ◌≤◌}
 use native.Mathlib.Omega.{arith}
 use lib.Dec.{leb}
 use lib.ListN.{length, drop, length-append}
 use lib.Seq.{drop_at}
 use mir.Val.{Val}
 use denote.Laws.{Is}
-use borrow.Author.Tests.{eq-eqb, ne_eqb, le-leb, lt-leb, leb-true, not-true, not-false}
-use Rattle.lists.specs.Lists.{both}
+use borrow.Author.Tests.{leb-true}
 use Rattle.lists.proofs.Facts.{both_true}
-use Rattle.answer.specs.Answer.{refused}
 use Rattle.config.proofs.Laws.{places-8}
 use Rattle.event.specs.declared.Head.{Head}
 use Rattle.state.specs.declared.KeyState.{KeyState}
@@ -24,9 +22,9 @@ use Rattle.snapshot.specs.declared.Loose.{Loose}
 use Rattle.writer.specs.Writing.{be, over}
 use Rattle.snapshot.specs.Bytes.{item_bytes, items_bytes}
 use Rattle.snapshot.specs.Saved.{point_bytes, group_bytes, head_bytes, tail_bytes, body_bytes, encoded, saved}
-use Rattle.snapshot.specs.Assembled.{framed, joined, front_bytes, back_bytes, loose_of, placed, fitting, assembled, pointed}
+use Rattle.snapshot.specs.Assembled.{framed, joined, front_bytes, back_bytes, loose_of, placed, fitting}
 use Rattle.snapshot.specs.contracts.Loose.{the_row}
-use Rattle.writer.proofs.Laws.{over-start, over_seam, length-be}
+use Rattle.writer.proofs.Laws.{over_start, over_seam, length_be}
 use Rattle.snapshot.proofs.Size.{item_size, config_size, record-size}
 use Rattle.snapshot.proofs.Real.{RealItems, real_items, raw-32}
 
@@ -54,7 +52,7 @@ swapped a m m' r b k ha hm =
     let e : (a ++ (m ++ r)) ++ d ≡ a ++ (m ++ (r ++ d)) = simp append_assoc in
     let f : (a ++ (m' ++ r)) ++ d ≡ a ++ (m' ++ (r ++ d)) = simp append_assoc in
     let g : drop (length m') (m ++ (r ++ d)) ≡ r ++ d = drop_at m (r ++ d) (length m') hm in
-    rw (over-start (a ++ (m ++ r)) b, over-start (a ++ (m' ++ r)) b, n, e, f) (rw g at (over_seam a (m ++ (r ++ d)) m' k ha))
+    rw (over_start (a ++ (m ++ r)) b, over_start (a ++ (m' ++ r)) b, n, e, f) (rw g at (over_seam a (m ++ (r ++ d)) m' k ha))
 
 -- mark, length and prefix; n is the body's length
 unfoldable before : ℕ → KeyState → List ℕ
@@ -95,7 +93,7 @@ pub stepped-bytes : (s : KeyState) (h : Head) (buf : List ℕ) → length (item_
 unfolding before latest behind tail_bytes
 stepped-bytes s h buf i p q room =
     let n = length (body_bytes s) in
-    let a : length (before n s) ≡ 37 = simp (length-append, length-be, i) in
+    let a : length (before n s) ≡ 37 = simp (length-append, length_be, i) in
     let m : length (latest s) ≡ length (latest (stepped s h)) = simp (length-append, p, q) in
     rw (around s n refl, around (stepped s h) n (body_length_lem s h p q))
     (swapped (before n s) (latest s) (latest (stepped s h)) (behind s) buf 37 a m)
@@ -105,12 +103,6 @@ pub joined_parts : (x : Loose) (point signers last : List ℕ)
     → joined x point signers last ≡ front_bytes x.prefix point x.latest signers ++ back_bytes x.witnessing x.config x.transferable last
 unfolding joined front_bytes back_bytes
 joined_parts x point signers last = simp append_assoc
-
--- the record with the size that was counted
-pub framed_as : (x : Loose) (point signers last : List ℕ) (n : ℕ) → n ≡ length (joined x point signers last)
-    → framed (joined x point signers last) ≡ (0x4B ∷ 0x53 ∷ []) ++ (be 2 n
-    ++ (front_bytes x.prefix point x.latest signers ++ back_bytes x.witnessing x.config x.transferable last))
-framed_as x point signers last n e = rw (← e, joined_parts x point signers last)
 
 -- ---- what is held, and what fits
 pub record RealLoose (x : Loose) : Type 0 where
@@ -150,30 +142,6 @@ module _ (x : Loose) (point signers last : List ℕ) where
         signers = leb-true (length signers) 65535 d.1;
       }
 
-  pub many_witnesses : 16 < x.witnessing.witnesses.count → fitting x point signers last ≡ false
-  unfolding fitting
-  many_witnesses h = rw (lt-leb x.witnessing.witnesses.count 16 h)
-
-  module _ (w : x.witnessing.witnesses.count ≤ 16) where
-    pub many_traits : 8 < x.config.count → fitting x point signers last ≡ false
-    unfolding fitting
-    many_traits h = rw (le-leb x.witnessing.witnesses.count 16 w, lt-leb x.config.count 8 h)
-
-    module _ (t : x.config.count ≤ 8) where
-      by_runs : fitting x point signers last ≡ both (leb (length point) 49) (both (leb (length last) 49) (leb (length signers) 65535))
-      unfolding fitting
-      by_runs = rw (le-leb x.witnessing.witnesses.count 16 w, le-leb x.config.count 8 t)
-
-      pub long_point : 49 < length point → fitting x point signers last ≡ false
-      long_point h = rw (by_runs, lt-leb (length point) 49 h)
-
-      module _ (p : length point ≤ 49) where
-        pub long_last : 49 < length last → fitting x point signers last ≡ false
-        long_last h = rw (by_runs, le-leb (length point) 49 p, lt-leb (length last) 49 h)
-
-        pub by_signers : length last ≤ 49 → fitting x point signers last ≡ leb (length signers) 65535
-        by_signers h = rw (by_runs, le-leb (length point) 49 p, le-leb (length last) 49 h)
-
   pub joined-size : (n : ℕ) → RealLoose x → x.config.count ≤ 8 → n ≡ length (items_bytes x.witnessing.witnesses)
       → 40 + n + x.config.count + length point + length signers + length last ≡ length (joined x point signers last)
   unfolding joined
@@ -188,61 +156,8 @@ module _ (x : Loose) (point signers last : List ℕ) where
         length-append,
         length-append,
         item_size x.prefix r.prefix,
-        length-be,
+        length_be,
         config_size x.config r.traits h,
         ← e,
       )
       (omega arith)
-
--- ---- what the functions answer, by their tests
-framed-size : (body : List ℕ) (n : ℕ) → n ≡ length body → 4 + n ≡ length (framed body)
-framed-size body n e = rw (length-append, length-append, length-be, ← e) (omega arith)
-
-placed-short : (xs buf : List ℕ) (n : ℕ) → n ≡ length xs → length buf < n → placed xs buf ≡ (refused 41 n 0, buf)
-unfolding placed
-placed-short xs buf n e h = rw (← e, lt-leb n (length buf) h)
-
-placed_whole : (xs buf : List ℕ) (n : ℕ) → n ≡ length xs → n ≤ length buf → placed xs buf ≡ (refused 0 n 0, over 0 xs buf)
-unfolding placed
-placed_whole xs buf n e h = rw (← e, le-leb n (length buf) h)
-
-module _ (x : Loose) (point signers last : List ℕ) (r : Bool) (e : r ≡ fitting x point signers last) where
-  pub unfit : not r ≡ true → fitting x point signers last ≡ false
-  unfit h = sym e ∙ not-true r h
-
-  pub fit : not r ≡ false → fitting x point signers last ≡ true
-  fit h = sym e ∙ not-false r h
-
-module _ (x : Loose) (point signers last buf : List ℕ) where
-  pub assembled_unfit : fitting x point signers last ≡ false → assembled x point signers last buf ≡ (refused 4 0 0, buf)
-  unfolding assembled
-  assembled_unfit f = rw f
-
-  module _ (f : fitting x point signers last ≡ true) (n : ℕ) (e : n ≡ length (joined x point signers last)) where
-    pub assembled-short : length buf < 4 + n → assembled x point signers last buf ≡ (refused 41 (4 + n) 0, buf)
-    unfolding assembled
-    assembled-short h = rw f (placed-short (framed (joined x point signers last)) buf (4 + n) (framed-size (joined x point signers last) n e) h)
-
-    pub assembled_whole : 4 + n ≤ length buf
-        → assembled x point signers last buf ≡ (refused 0 (4 + n) 0, over 0 (framed (joined x point signers last)) buf)
-    unfolding assembled
-    assembled_whole h = rw f (placed_whole (framed (joined x point signers last)) buf (4 + n) (framed-size (joined x point signers last) n e) h)
-
-    pub assembled-room : 4 + n ≤ length buf → 0 + length (framed (joined x point signers last)) ≤ length buf
-    assembled-room h = let f = framed-size (joined x point signers last) n e in omega arith
-
-module _ (point buf : List ℕ) where
-  pub pointed_other : (length point ≡ 49 → ⊥) → pointed point buf ≡ buf
-  unfolding pointed
-  pointed_other h = rw (ne_eqb (length point) 49 h)
-
-  pub pointed-short : length point ≡ 49 → length buf < 87 → pointed point buf ≡ buf
-  unfolding pointed
-  pointed-short e h = rw (eq-eqb (length point) 49 e, lt-leb 87 (length buf) h)
-
-  pub pointed_whole : length point ≡ 49 → 87 ≤ length buf → pointed point buf ≡ over 37 (point ++ (2 ∷ [])) buf
-  unfolding pointed
-  pointed_whole e h = rw (eq-eqb (length point) 49 e, le-leb 87 (length buf) h)
-
-  pub point_room : length point ≡ 49 → 87 ≤ length buf → 37 + length (point ++ (2 ∷ [])) ≤ length buf
-  point_room e h = rw (length-append, e) h

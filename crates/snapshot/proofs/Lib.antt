@@ -7,3 +7,4 @@ pub mod Back
 pub mod Longest
 pub mod Whole
 pub mod Assembled
+pub mod Faults

@@ -14,7 +14,7 @@ use borrow.Author.Tests.{le-leb, lt-ltb, eq-eqb}
 use Rattle.format.specs.Parse.{Parse, got, ◌>>=◌, byte_at, be_from, num_at, raw_at, classed, many_at, list_at, ended}
 use Rattle.writer.specs.Writing.{be}
 use Rattle.snapshot.specs.Bytes.{each}
-use Rattle.writer.proofs.Laws.{length-be}
+use Rattle.writer.proofs.Laws.{length_be}
 
 -- the bytes xs, wherever they stand before a rest that R allows, are read as a
 unfoldable pub Reads : {A : Type 0} → (List ℕ → Type 0) → (List ℕ → ℕ → Parse A) → List ℕ → A → Type 0
@@ -86,7 +86,7 @@ be_back (suc w) v h =
 pub code_number : (w v : ℕ) → v < 256 ^ w → Codes (num_at w) (be w v) v
 unfolding Reads num_at
 code_number w v h s at rest r k e =
-    let l : length (be w v) ≡ w = length-be w v in
+    let l : length (be w v) ≡ w = length_be w v in
     let n : at + w ≤ length s = omega (arith, within s at (be w v) rest k e) in
     rw (le-leb _ _ n, e, take_at (be w v) rest w l, be_back w v h, l)
 

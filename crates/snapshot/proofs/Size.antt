@@ -1,9 +1,9 @@
--- How many bytes the fields have. Assumes nothing.
-use mathlib.Core.Path.{◌≡◌, sym, ap, ◌∙◌}
-use mathlib.Core.List.{List, ◌∷◌, ◌++◌, []}
-use mathlib.Core.Bool.{true, false}
-use Prim.Native.Nat.{ℕ, zero, suc, ◌+◌, ◌*◌, ◌≤◌, ◌<◌}
-use borrow.Author.Tests.{eq-eqb, ne_eqb, le-leb, lt-leb}
+-- How many bytes the fields have, and the parts in which they are written. Assumes nothing.
+use mathlib.Core.Path.{◌≡◌, sym, ap}
+use mathlib.Core.List.{List, ◌∷◌, ◌++◌, [], append_assoc}
+use mathlib.Core.Bool.{Bool, true}
+use Prim.Native.Nat.{ℕ, zero, suc, ◌+◌, ◌*◌, ◌≤◌}
+use borrow.Author.Tests.{eq-eqb, le-leb}
 use native.Mathlib.Nat.{mul-suc}
 use native.Mathlib.Omega.{arith}
 use lib.ListN.{length, take, length-append, length-take}
@@ -11,6 +11,7 @@ use Rattle.item.specs.declared.Item.{Item}
 use Rattle.items.specs.declared.Items.{Items}
 use Rattle.items.specs.Items.{listed}
 use Rattle.config.specs.declared.Config.{Config}
+use Rattle.authority.specs.declared.Witnessing.{Witnessing}
 use Rattle.config.specs.Config.{traits_of}
 use Rattle.number.specs.declared.Number.{Number}
 use Rattle.weight.specs.declared.Weight.{Weight}
@@ -20,11 +21,12 @@ use Rattle.answer.specs.Answer.{refused}
 use Rattle.state.specs.declared.KeyState.{KeyState}
 use Rattle.state.specs.declared.Holder.{Holder}
 use Rattle.state.specs.State.{is_held}
-use Rattle.shape.specs.State.{state_shape, holder_shape}
+use Rattle.shape.specs.State.{holder_shape}
 use Rattle.writer.specs.Writing.{be, over}
-use Rattle.snapshot.specs.Bytes.{words_bytes, item_bytes, each, items_bytes, counted, config_bytes, weight_bytes, threshold_bytes}
+use Rattle.snapshot.specs.Bytes.{frame_bytes, words_bytes, item_bytes, each, items_bytes, counted, config_bytes, weight_bytes, threshold_bytes, standing_bytes}
+use Rattle.snapshot.specs.Assembled.{framed, back_bytes}
 use Rattle.snapshot.specs.Saved.{point_bytes, group_bytes, head_bytes, tail_bytes, body_bytes, encoded, saved}
-use Rattle.writer.proofs.Laws.{length-be}
+use Rattle.writer.proofs.Laws.{length_be, over_append}
 use Rattle.snapshot.proofs.Laws.{simple-bytes, weighted-bytes}
 use Rattle.snapshot.proofs.Round.{Each}
 use Rattle.snapshot.proofs.Real.{RealItems, RealThreshold, RealState}
@@ -54,7 +56,7 @@ each-length f w (x ∷ xs) p =
 -- ---- the fields
 words_size : (a b : ℕ) → length (words_bytes a b) ≡ 16
 unfolding words_bytes
-words_size a b = rw (length-append, length-be, length-be)
+words_size a b = rw (length-append, length_be, length_be)
 
 pub item_size : (x : Item) → length x.raw ≡ 32 → length (item_bytes x) ≡ 33
 unfolding item_bytes
@@ -80,7 +82,7 @@ config_size c n h =
 
 module _ (t : Threshold) where
   pub simple-size : t.tag ≡ 0 → length (threshold_bytes t) ≡ 9
-  simple-size h = rw (simple-bytes t h, length-append, length-be)
+  simple-size h = rw (simple-bytes t h, length-append, length_be)
 
   pub weighted-size : RealThreshold t → (total : ℕ) → (t.tag ≡ 0 → ⊥) → total ≡ weights_in t → t.clauses ≤ 16 → total ≤ 16
       → length (threshold_bytes t) ≡ 2 + t.clauses + 16 * total
@@ -113,7 +115,7 @@ tail_size s r h =
       length-append,
       length-append,
       length-append,
-      length-be,
+      length_be,
       config_size s.config r.traits h,
       point_size s.last.sn s.last.said r.established,
     )
@@ -123,41 +125,49 @@ pub body_size : (s : KeyState) (own next witnesses : ℕ) → RealState s → s.
     → own ≡ length (group_bytes s.authority.keys s.authority.threshold)
     → next ≡ length (group_bytes s.commitment.next s.commitment.threshold)
     → witnesses ≡ length (items_bytes s.witnessing.witnesses)
-    → 138 + (own + next) + witnesses + s.config.count ≡ length (body_bytes s)
+    → 138 + own + next + witnesses + s.config.count ≡ length (body_bytes s)
 unfolding body_bytes
 body_size s own next witnesses r h e f g =
     rw (length-append, length-append, length-append, length-append, head_size s r, tail_size s r h, ← e, ← f, ← g) (omega arith)
 
+pub encoded_size : (s : KeyState) → length (encoded s) ≡ 4 + length (body_bytes s)
+unfolding encoded
+encoded_size s = rw (length-append, length-append, length_be) (omega arith)
+
 pub record-size : (s : KeyState) (n : ℕ) → n ≡ length (body_bytes s) → 4 + n ≡ length (encoded s)
-unfolding encoded
-record-size s n e = rw (length-append, length-append, length-be, ← e) (omega arith)
+record-size s n e = rw e (sym (encoded_size s))
 
--- ---- what saving answers, by the three checks
-module _ (h : Holder) (buf : List ℕ) where
-  pub saved_fault : (n : ℕ) → n ≡ holder_shape h → (n ≡ 0 → ⊥) → saved h buf ≡ (refused n 0 0, buf)
+-- what saving answers where there is room
+module _ (h : Holder) (buf : List ℕ) (n : ℕ) (e : n ≡ holder_shape h) (z : n ≡ 0) (size : ℕ) (held : is_held h ≡ true) (s : size ≡ length (encoded h.state)) where
+  pub saved_whole : size ≤ length buf → saved h buf ≡ (refused 0 size 0, over 0 (encoded h.state) buf)
   unfolding saved
-  saved_fault n e ne = rw (← e, ne_eqb n 0 ne)
+  saved_whole l = rw (← e, eq-eqb n 0 z, held, ← s, le-leb size (length buf) l)
 
-  module _ (n : ℕ) (e : n ≡ holder_shape h) (z : n ≡ 0) where
-    pub saved-empty : is_held h ≡ false → saved h buf ≡ (refused 8 0 0, buf)
-    unfolding saved
-    saved-empty f = rw (← e, eq-eqb n 0 z, f)
+-- ---- parts, as they are written
+pub tail_parts : (s : KeyState) → tail_bytes s ≡ standing_bytes s.witnessing s.config s.transferable ++ point_bytes s.last.sn s.last.said
+unfolding tail_bytes standing_bytes
+tail_parts s = simp append_assoc
 
-    module _ (size : ℕ) (held : is_held h ≡ true) (s : size ≡ length (encoded h.state)) where
-      pub saved-short : length buf < size → saved h buf ≡ (refused 41 size 0, buf)
-      unfolding saved
-      saved-short l = rw (← e, eq-eqb n 0 z, held, ← s, lt-leb size (length buf) l)
+pub back_parts : (w : Witnessing) (c : Config) (transferable : Bool) (last : List ℕ)
+    → back_bytes w c transferable last ≡ standing_bytes w c transferable ++ last
+unfolding back_bytes standing_bytes
+back_parts w c transferable last = simp append_assoc
 
-      pub saved_whole : size ≤ length buf → saved h buf ≡ (refused 0 size 0, over 0 (encoded h.state) buf)
-      unfolding saved
-      saved_whole l = rw (← e, eq-eqb n 0 z, held, ← s, le-leb size (length buf) l)
+pub frame_over : (n : ℕ) (b : List ℕ) → 4 ≤ length b → over 0 (frame_bytes n) b ≡ over 2 (be 2 n) (over 0 (0x4B ∷ 0x53 ∷ []) b)
+unfolding frame_bytes
+frame_over n b h = over_append 0 (0x4B ∷ 0x53 ∷ []) (be 2 n) b (omega arith)
 
-  -- a held state whose holder has no fault has none
-  pub held-shape : (n : ℕ) → n ≡ holder_shape h → n ≡ 0 → is_held h ≡ true → state_shape h.state ≡ 0
-  unfolding holder_shape
-  held-shape n e z held = let f : n ≡ state_shape h.state = rw held at e in sym f ∙ z
+-- mark and length, and the body behind them
+pub framed_over : (body b : List ℕ) → 4 + length body ≤ length b
+    → over 0 (framed body) b ≡ over 4 body (over 0 (frame_bytes (length body)) b)
+unfolding frame_bytes
+framed_over body b h =
+    let f : List ℕ = (0x4B ∷ 0x53 ∷ []) ++ be 2 (length body) in
+    let l : length f ≡ 4 = rw (length-append, length_be) in
+    let r : 0 + length f ≤ length b = omega arith in
+    rw l at (over_append 0 f body b r)
 
--- the record with the size that was counted
-pub encoded_as : (s : KeyState) (n : ℕ) → n ≡ length (body_bytes s) → encoded s ≡ (0x4B ∷ 0x53 ∷ []) ++ (be 2 n ++ body_bytes s)
+pub encoded_over : (s : KeyState) (b : List ℕ) → length (encoded s) ≤ length b
+    → over 0 (encoded s) b ≡ over 4 (body_bytes s) (over 0 (frame_bytes (length (body_bytes s))) b)
 unfolding encoded
-encoded_as s n e = rw e
+encoded_over s b h = let e = encoded_size s in framed_over (body_bytes s) b (omega arith)

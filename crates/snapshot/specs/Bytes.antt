@@ -6,6 +6,7 @@ use Rattle.item.specs.declared.Item.{Item}
 use Rattle.items.specs.declared.Items.{Items}
 use Rattle.items.specs.Items.{listed}
 use Rattle.config.specs.declared.Config.{Config}
+use Rattle.authority.specs.declared.Witnessing.{Witnessing}
 use Rattle.config.specs.Config.{traits_of}
 use Rattle.weight.specs.declared.Weight.{Weight}
 use Rattle.threshold.specs.declared.Threshold.{Threshold}
@@ -49,6 +50,15 @@ threshold_bytes t =
 -- 0 or 1
 abbrev pub flag_byte : Bool → ℕ
 flag_byte b = pick b 1 0
+
+-- "witnesses, toad, config, transferable 0 or 1"
+unfoldable pub standing_bytes : Witnessing → Config → Bool → List ℕ
+standing_bytes w c transferable =
+    items_bytes w.witnesses ++ (be 4 w.toad ++ (config_bytes c ++ (flag_byte transferable ∷ [])))
+
+-- "A record is a two-byte ASCII mark, a u16 body length": KS is 0x4B, 0x53
+unfoldable pub frame_bytes : ℕ → List ℕ
+frame_bytes size = (0x4B ∷ 0x53 ∷ []) ++ be 2 size
 
 -- n is how many bytes xs has, and no more than `most`
 pub record Sized (xs : List ℕ) (most : ℕ) (n : ℕ) : Type 0 where

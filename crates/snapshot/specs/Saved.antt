@@ -1,14 +1,16 @@
 -- "KS: prefix, sn, latest said, latest type (0 IC, 1 RO, 2 IX), keys, threshold, next, next threshold, witnesses, toad, config,
 -- transferable 0 or 1, last establishment sn and said. Saving writes a KS, answers 0 with the whole record's length (mark and
 -- length included, as in 41) as a, and touches no byte after it; saving an empty holder answers 8."
-use Rattle.std.specs.Prelude.{ℕ, List, [], ◌∷◌, ◌++◌, leb, eqb, length}
+use Rattle.std.specs.Prelude.{ℕ, List, [], ◌∷◌, ◌++◌, leb, eqb, length, Result, Ok, Err}
 use Rattle.lists.specs.Lists.{pick}
 use Rattle.number.specs.declared.Number.{Number}
 use Rattle.item.specs.declared.Item.{Item}
 use Rattle.items.specs.declared.Items.{Items}
 use Rattle.threshold.specs.declared.Threshold.{Threshold}
 use Rattle.answer.specs.declared.Answer.{Answer}
+use Rattle.answer.specs.declared.Refusal.{Refusal}
 use Rattle.answer.specs.Answer.{refused}
+use Rattle.answer.specs.Refusal.{answer_of}
 use Rattle.state.specs.declared.KeyState.{KeyState}
 use Rattle.state.specs.declared.Holder.{Holder}
 use Rattle.state.specs.State.{is_held}
@@ -61,3 +63,8 @@ saved h buf =
     (refused 41 (length (encoded h.state)) 0, buf))
     (refused 8 0 0, buf))
     (refused (holder_shape h) 0 0, buf)
+
+-- what saving gives, as an answer: the record's whole length, or a refusal
+abbrev pub saved_as : Result ℕ Refusal → Answer
+saved_as (Ok n) = refused 0 n 0
+saved_as (Err r) = answer_of r

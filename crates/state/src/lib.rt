@@ -19,6 +19,7 @@ pub struct EstablishmentRef {
 }
 
 // `latest` is the type of the latest event: 0 inception, 1 rotation, 2 interaction.
+// It stays a number: an enum would ask more of callers, where shape answers 3 for every other number.
 #[derive(Clone, Copy)]
 pub struct KeyState {
     pub prefix: Item,
@@ -33,7 +34,8 @@ pub struct KeyState {
     pub last: EstablishmentRef,
 }
 
-// Empty, or one state. An empty holder's state is not looked at.
+// Empty, or one state. An empty holder's state is not looked at, and comes back from a refusal as it was.
+// No Option<KeyState>, which cannot hold it: `ingest::offer` promises the whole holder unchanged on refusal, an empty one too.
 #[derive(Clone, Copy)]
 pub struct Holder {
     pub held: bool,
@@ -44,41 +46,27 @@ pub struct Holder {
 pub fn can_move(code: u8, next: usize) -> bool
     ensures { result ≡ moves_with code next }
 {
-    if item::is_transferable(code) {
-        next != 0
-    } else {
-        false
-    }
+    item::is_transferable(code) && next != 0
 }
 
 // The state that an inception makes: the checked path writes the number 0, the unchecked fold the event's own.
 pub fn begin(sn: Number, h: Head, b: Body) -> KeyState
     ensures { result ≡ begun sn h b }
 {
-    let prefix = h.prefix;
-    let said = h.said;
-    let authority = b.authority;
-    let commitment = b.commitment;
-    let next = commitment.next;
-    let witnesses = b.additions;
-    let config = b.config;
-    let transferable = can_move(prefix.code, next.count);
-    let witnessing = Witnessing {
-        witnesses: witnesses,
-        toad: b.toad,
-    };
-    let last = EstablishmentRef { sn: sn, said: said };
     KeyState {
-        prefix: prefix,
-        sn: sn,
-        said: said,
+        prefix: h.prefix,
+        sn,
+        said: h.said,
         latest: 0,
-        authority: authority,
-        commitment: commitment,
-        witnessing: witnessing,
-        config: config,
-        transferable: transferable,
-        last: last,
+        authority: b.authority,
+        commitment: b.commitment,
+        witnessing: Witnessing {
+            witnesses: b.additions,
+            toad: b.toad,
+        },
+        config: b.config,
+        transferable: can_move(h.prefix.code, b.commitment.next.count),
+        last: EstablishmentRef { sn, said: h.said },
     }
 }
 
@@ -86,34 +74,22 @@ pub fn begin(sn: Number, h: Head, b: Body) -> KeyState
 pub fn rotate(s: KeyState, h: Head, b: Body, witnesses: Items) -> KeyState
     ensures { result ≡ rotated s h b witnesses }
 {
-    let prefix = s.prefix;
-    let sn = h.sn;
-    let said = h.said;
-    let authority = b.authority;
-    let commitment = b.commitment;
-    let next = commitment.next;
-    let config = s.config;
-    let transferable = if next.count == 0 {
-        false
-    } else {
-        s.transferable
-    };
-    let witnessing = Witnessing {
-        witnesses: witnesses,
-        toad: b.toad,
-    };
-    let last = EstablishmentRef { sn: sn, said: said };
     KeyState {
-        prefix: prefix,
-        sn: sn,
-        said: said,
+        sn: h.sn,
+        said: h.said,
         latest: 1,
-        authority: authority,
-        commitment: commitment,
-        witnessing: witnessing,
-        config: config,
-        transferable: transferable,
-        last: last,
+        authority: b.authority,
+        commitment: b.commitment,
+        witnessing: Witnessing {
+            witnesses,
+            toad: b.toad,
+        },
+        transferable: s.transferable && b.commitment.next.count != 0,
+        last: EstablishmentRef {
+            sn: h.sn,
+            said: h.said,
+        },
+        ..s
     }
 }
 
@@ -121,13 +97,12 @@ pub fn rotate(s: KeyState, h: Head, b: Body, witnesses: Items) -> KeyState
 pub fn step(s: KeyState, h: Head) -> KeyState
     ensures { result ≡ stepped s h }
 {
-    let sn = h.sn;
-    let said = h.said;
-    let mut next = s;
-    next.sn = sn;
-    next.said = said;
-    next.latest = 2;
-    next
+    KeyState {
+        sn: h.sn,
+        said: h.said,
+        latest: 2,
+        ..s
+    }
 }
 
 pub fn hold(s: KeyState) -> Holder

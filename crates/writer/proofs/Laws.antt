@@ -1,8 +1,9 @@
 -- Writing over a buffer, one piece after another. Assumes nothing.
 --     over_..      nothing, the last byte first, one piece behind another
 --     wrote        what a total writer does where there is room
---     Left         what is still to be written: `begin`, `fits`, `more`, `done`, `last` are all that a writer cites; `put_more` and
---                  `put_last` where the piece is a total writer's
+--     Left         what is still to be written: `begin`, `fits`, `more`, `done`, `last` are all that a writer cites; `put_more`
+--                  where the piece is a total writer's
+--     pieces       for code that writes one piece behind another
 --     digits_..    a loop that writes digits from the last one, as those of a number in bytes
 use mathlib.Core.Path.{◌≡◌, refl, sym, ap, ◌∙◌}
 use mathlib.Core.List.{List, ◌∷◌, ◌++◌, append_assoc, []}
@@ -12,6 +13,7 @@ use native.Mathlib.Omega.{arith}
 use lib.ListN.{length, take, drop, set, length-append, length-take, length-drop, take-append-drop}
 use lib.Seq.{take-set-le, length-take-le, drop-drop, drop-append-add, take-append_seam}
 use borrow.Author.Tests.{le-leb}
+use Rattle.std.proofs.lemmas.Grind.{common_steps}
 use Rattle.std.proofs.lemmas.List.{drop-set}
 use Rattle.writer.specs.Writing.{be, over, Room, Wrote, put}
 
@@ -50,11 +52,9 @@ over_append at xs ys b h =
     (over_seam (take at b ++ xs) (drop (at + length xs) b) ys (at + length xs) p
     ∙ simp (drop-drop, append_assoc, length-append, add_assoc)))
 
-pub same_bytes : {xs ys b b' : List ℕ} {at q : ℕ} → xs ≡ ys → Wrote xs at b q b' → Wrote ys at b q b'
-same_bytes e w = rw e at w
-
-pub same_room : {xs ys : List ℕ} (at : ℕ) (b : List ℕ) → xs ≡ ys → at + length xs ≤ length b → at + length ys ≤ length b
-same_room at b e h = rw e at h
+-- the first byte first
+pub over_cons : (at x : ℕ) (xs b : List ℕ) → at + suc (length xs) ≤ length b → over at (x ∷ xs) b ≡ over (at + 1) xs (over at (x ∷ []) b)
+over_cons at x xs b h = over_append at (x ∷ []) xs b (omega arith)
 
 -- ---- What a total writer promises of xs: q is the place that it gives, b' the bytes behind it.
 abbrev pub Put : List ℕ → ℕ → List ℕ → ℕ → List ℕ → Type 0
@@ -110,9 +110,6 @@ module _ {all b₀ b : List ℕ} {at p : ℕ} where
   pub put_more : {b' : List ℕ} {q : ℕ} (xs rest : List ℕ) → Left all at b₀ (xs ++ rest) p b → Put xs p b q b' → Left all at b₀ rest q b'
   put_more xs rest l e = more xs rest l (wrote xs p b (fits xs rest l) e)
 
-  pub put_last : {b' : List ℕ} {q : ℕ} (xs : List ℕ) → Left all at b₀ xs p b → Put xs p b q b' → Wrote all at b₀ q b'
-  put_last xs l e = last xs l (wrote xs p b l.room e)
-
 -- ---- Digits, in any base and by any glyphs: w of them are those of what stands before the last one, and that.
 pub record Digits (f : ℕ → ℕ → List ℕ) (base : ℕ) (glyph : ℕ → ℕ) : Type 0 where
   pub none : (v : ℕ) → f 0 v ≡ []
@@ -133,14 +130,6 @@ module _ {f : ℕ → ℕ → List ℕ} {base : ℕ} {glyph : ℕ → ℕ} (d : 
       let o = e ∙ ap (λ (xs : List ℕ). over at xs b) (d.next i x) ∙ over_last at (f i (x / base)) (glyph (x % base)) b l in
       rw j (rw (digits_length i (x / base)) at o)
 
-  pub digits_end : (at width v : ℕ) (b₀ b : List ℕ) (i x : ℕ) → i ≤ 0 → over at (f width v) b₀ ≡ over at (f i x) b → Wrote (f width v) at b₀ (at + width) b
-  digits_end at width v b₀ b i x h e =
-      let j : i ≡ 0 = omega arith in
-      record {
-        behind = ap (λ (n : ℕ). at + n) (sym (digits_length width v));
-        bytes = sym (e ∙ rw (j, d.none x) (over_none at b));
-      }
-
 pub be_digits : Digits be 256 (λ (x : ℕ). x)
 unfolding be
 be_digits = record { none = λ v. refl; next = λ w v. refl }
@@ -156,3 +145,6 @@ pub over_be_none : (at i x : ℕ) (b : List ℕ) → i ≤ 0 → over at (be i x
 over_be_none at i x b h =
     let z : i ≡ 0 = omega arith in
     rw (z, be_digits.none x) (over_none at b)
+
+-- for code that writes one piece behind another
+pub ruleset pieces = (common_steps, over_append, over_cons, length_be)

@@ -1,12 +1,8 @@
-use mathlib.Core.Path.{◌≡◌}
-use Prim.Native.Nat.{◌-◌, ◌≤◌}
-use lib.ListN.{length, drop, take}
+use lib.ListN.{drop}
 use Rattle.snapshot.specs.Bytes.{each, weight_bytes}
 use Rattle.writer.proofs.Laws.{Left}
 use Rattle.snapshot.proofs.put_weights.Given as goal
 
-abbrev pub invariant-loop-i : goal.invariant-loop-i
-invariant-loop-i l = (l.i ≤ l.n) × (l.n ≤ 16) × (length l.weights ≡ 16) × (length l.buf ≡ length l.initial.buf) × Left (each weight_bytes (take l.n l.weights)) l.initial.p l.initial.buf (each weight_bytes (drop l.i (take l.n l.weights))) l.p l.buf
-
-abbrev pub decreases-loop-i : goal.decreases-loop-i
-decreases-loop-i l = l.n - l.i
+-- the weights from here on are to come
+abbrev pub invariant-loop-w : goal.invariant-loop-w
+invariant-loop-w l = Left (each weight_bytes l.weights) l.at l.initial.buf (each weight_bytes (drop l.w-index l.weights)) l.p l.buf
