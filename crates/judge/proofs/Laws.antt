@@ -28,7 +28,7 @@ use Rattle.event.specs.declared.Head.{Head}
 use Rattle.event.specs.declared.Ilk.TheVariants.{Inception, Rotation, Interaction}
 use Rattle.evidence.specs.declared.Evidence.{Evidence}
 use Rattle.evidence.specs.Evidence.{evidence_of, signed_on, receipted_on}
-use Rattle.rules.specs.Rules.{chains_onto, of_prefix, may_interact, interaction, rewitness, rotation, changed, new_witnesses}
+use Rattle.rules.specs.Rules.{chains_onto, of_prefix, may_interact, interaction, rewitness, rotation, witness_stages, changed, new_witnesses}
 use Rattle.rules.proofs.Laws.{change_stops}
 use Rattle.reserved.proofs.Laws.{incepts}
 use Rattle.ingest.specs.Judgement.{incepted, rotates, interacts}
@@ -44,7 +44,7 @@ use Rattle.record.specs.declared.EventMarks.{EventMarks}
 use Rattle.record.specs.declared.StateMarks.{StateMarks}
 use Rattle.record.specs.Marks.{state_of, event_of}
 use Rattle.record.proofs.Laws.{evidence_as}
-use Rattle.judge.specs.Parts.{list_at, threshold_at, evidence_at, start_at, keys_at, witnesses_at, chains_at, opening_at, rewitness_at, changed_at}
+use Rattle.judge.specs.Parts.{list_at, threshold_at, evidence_at, start_at, keys_at, witnesses_at, chains_at, opening_at, moving_at, standing_at, rewitness_at, changed_at}
 
 -- ---- what is not looked at
 none_of : (s : List ℕ) (p : ℕ) → many_of (item_of s) 33 16 s 0 p ≡ []
@@ -120,19 +120,27 @@ module _ (s : List ℕ) (m : EventMarks) (prefix : Item) (next witnesses : ℕ)
     witnesses_answer good x e =
         last x _ (clean_first (witnesses_at m.body.toad witnesses v)) e ∙ sym (goes_on _ _ good) ∙ sym (goes_on _ _ began) ∙ inception_at_lem keys v ek ev
 
--- ---- an interaction
-module _ (st : List ℕ) (sm : StateMarks) (s : List ℕ) (m : EventMarks) (keys witnesses : ℕ) (v : Evidence)
-    (ek : keys ≡ (list_at st sm.body.signers.authority.items).count)
-    (ew : witnesses ≡ (list_at st sm.body.additions).count)
-    (ev : v ≡ evidence_at s m.tail keys 0) where
-  pub interaction_at_lem : first_refusal (
-      may_interact (config_of st sm.body.config.count sm.body.config.first)
-      ∷ chains_at st sm.head s m.head
-      ∷ signed_on (threshold_at st sm.body.signers.authority) v
-      ∷ receipted_on sm.body.toad v witnesses
-      ∷ []) ≡ interacts (state_of st sm) (event_of Interaction s m)
+-- ---- an interaction from its groups of checks
+module _ (st : List ℕ) (sm : StateMarks) (s : List ℕ) (m : EventMarks) where
+  abbrev moves : Answer
+  moves = interacts (state_of st sm) (event_of Interaction s m)
+
+  interaction_at_lem : (keys : ℕ) (v : Evidence) → keys ≡ (list_at st sm.body.signers.authority.items).count → v ≡ evidence_at s m.tail keys 0
+      → first_refusal (first_refusal (moving_at st sm s m.head) ∷ first_refusal (standing_at st sm.body v) ∷ []) ≡ moves
   unfolding interaction
-  interaction_at_lem = rw ew (interact_lists (state_of st sm) (event_of Interaction s m) v (gathered s m.tail keys 0 _ 0 v ev ek refl))
+  interaction_at_lem keys v ek ev =
+      grouped (moving_at st sm s m.head) (first_refusal (standing_at st sm.body v) ∷ [])
+      ∙ tail_same (moving_at st sm s m.head) (first_refusal (standing_at st sm.body v) ∷ []) (standing_at st sm.body v) (sym (last _ _ (clean_first (standing_at st sm.body v)) refl))
+      ∙ interact_lists (state_of st sm) (event_of Interaction s m) v (gathered s m.tail keys 0 _ 0 v ev ek refl)
+
+  pub moving_stops : (r : Refusal) → answer_of r ≡ first_refusal (moving_at st sm s m.head) → answer_of r ≡ moves
+  moving_stops r e = stops r _ _ e ∙ interaction_at_lem _ _ refl refl
+
+  pub standing_answers : (keys : ℕ) (v : Evidence) → accepted ≡ first_refusal (moving_at st sm s m.head)
+      → keys ≡ (list_at st sm.body.signers.authority.items).count → v ≡ evidence_at s m.tail keys 0
+      → (x : Answer) → x ≡ first_refusal (standing_at st sm.body v) → x ≡ moves
+  standing_answers keys v good ek ev x e =
+      last x _ (clean_first (standing_at st sm.body v)) e ∙ sym (goes_on _ _ good) ∙ interaction_at_lem keys v ek ev
 
 -- ---- a rotation
 -- no cuts and no additions leave the list as it is, without a fault
@@ -148,6 +156,12 @@ updated_same xs = all_kept xs
 no_change_faults : (xs : List Item) → accepted ≡ change_faults xs [] []
 unfolding change_faults first_refusal repeat_from any
 no_change_faults xs = refl
+
+-- what is left to check of a list that was kept
+kept_stages : (faults : Answer) (new xs : List Item) (toad : ℕ) (receipted : ℕ → Answer) → accepted ≡ faults → new ≡ xs → length xs ≤ 16
+    → first_refusal (witness_stages faults new toad receipted) ≡ first_refusal (witness_threshold toad (length xs) ∷ receipted (length xs) ∷ [])
+unfolding first_refusal change_of
+kept_stages faults new xs toad receipted clean same few = rw (← clean, same, le-leb (length xs) 16 few)
 
 few_at : (s : List ℕ) (n p : ℕ) → length (many_of (item_of s) 33 16 s n p) ≤ 16
 unfolding many_of
@@ -174,10 +188,11 @@ module _ (s : List ℕ) (n p : ℕ) where
   -- so no change is 30 or 31, then 32, of that list
   pub unchanged_at : (toad : ℕ) (v : Evidence)
       → changed (first_refusal (witnesses_at toad (items_of s n p).count v)) (listed (items_of s n p)) ≡ changed_at (listed (items_of s n p)) [] [] toad v
-  unfolding first_refusal change_of
   unchanged_at toad v =
       let xs = listed (items_of s n p) in
-      rw (listed_count, updated_same xs, ← no_change_faults xs, le-leb (length xs) 16 listed_few)
+      ap₂ (λ (x : Answer) (ys : List Item). changed x ys)
+      (ap (λ (k : ℕ). first_refusal (witnesses_at toad k v)) listed_count ∙ sym (kept_stages _ _ xs toad (receipted_on toad v) (no_change_faults xs) (updated_same xs) listed_few))
+      (sym (updated_same xs))
 
 pub no_change : (xs : List Item) (s : List ℕ) (cut added : Listing) (toad : ℕ) (v : Evidence) → both (eqb cut.count 0) (eqb added.count 0) ≡ true
     → changed_at xs [] [] toad v ≡ changed_at xs (listed (list_at s cut)) (listed (list_at s added)) toad v
@@ -199,8 +214,8 @@ module _ (st : List ℕ) (sm : StateMarks) (s : List ℕ) (m : EventMarks) where
 
   module _ (keys next : ℕ) (v : Evidence)
       (ek : keys ≡ (list_at s m.body.signers.authority.items).count)
-      (en : next ≡ (list_at st sm.body.signers.commitment.items).count)
-      (ev : v ≡ evidence_at s m.tail keys next) where
+      (ev : v ≡ evidence_at s m.tail keys next)
+      (en : next ≡ (list_at st sm.body.signers.commitment.items).count) where
     rotation_at_lem : first_refusal (first_refusal (opening_at st sm s m keys v) ∷ rewitness_in v ∷ []) ≡ turns
     unfolding rotation rewitness
     rotation_at_lem =
@@ -208,8 +223,8 @@ module _ (st : List ℕ) (sm : StateMarks) (s : List ℕ) (m : EventMarks) where
         ∙ ap (λ (n : ℕ). first_refusal (opening_at st sm s m n v ++ (rewitness_in v ∷ []))) ek
         ∙ rotate_lists (state_of st sm) (event_of Rotation s m) v (gathered s m.tail keys next _ _ v ev ek en)
 
-    pub opening_stops : (r : Refusal) → answer_of r ≡ first_refusal (opening_at st sm s m keys v) → record { answer = answer_of r; list = packed [] } ≡ changed turns new
-    opening_stops r e = change_stops r turns new (stops r _ _ e ∙ rotation_at_lem)
+    pub opening_stops : (r : Refusal) → answer_of r ≡ first_refusal (opening_at st sm s m keys v) → answer_of r ≡ turns
+    opening_stops r e = stops r _ _ e ∙ rotation_at_lem
 
     pub rewitness_answers : accepted ≡ first_refusal (opening_at st sm s m keys v) → changed (rewitness_in v) new ≡ changed turns new
     rewitness_answers e =

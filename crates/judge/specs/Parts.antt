@@ -13,8 +13,8 @@ use Rattle.member_set.specs.Members.{Change, witness_faults, change_faults, upda
 use Rattle.inception.specs.Identity.{identity}
 use Rattle.evidence.specs.declared.Evidence.{Evidence}
 use Rattle.evidence.specs.Evidence.{evidence_of, signed_on, exposed_on, receipted_on}
-use Rattle.rules.specs.Rules.{chains_onto, genesis_head, next_form, next_form_of, witness_stages, changed}
-use Rattle.field.specs.Field.{item_of, items_of}
+use Rattle.rules.specs.Rules.{chains_onto, genesis_head, next_form, next_form_of, witness_stages, changed, may_interact}
+use Rattle.field.specs.Field.{item_of, items_of, config_of}
 use Rattle.threshold_field.specs.ThresholdField.{threshold_of}
 use Rattle.wire.specs.Wire.{sigers_of}
 use Rattle.cursor.specs.declared.Listing.{Listing}
@@ -89,3 +89,10 @@ rewitness_at current cuts adds toad v =
 
 abbrev pub changed_at : List Item → List Item → List Item → ℕ → Evidence → Change
 changed_at current cuts adds toad v = changed (rewitness_at current cuts adds toad v) (updated current cuts adds)
+
+-- ---- "IX: 37; 33, 34, 35, 36; 27 with the state's keys; 32 with the state's witnesses"
+abbrev pub moving_at : List ℕ → StateMarks → List ℕ → HeadMarks → List Answer
+moving_at st sm s h = may_interact (config_of st sm.body.config.count sm.body.config.first) ∷ chains_at st sm.head s h ∷ []
+
+abbrev pub standing_at : List ℕ → BodyMarks → Evidence → List Answer
+standing_at st held v = signed_on (threshold_at st held.signers.authority) v ∷ receipted_on held.toad v (list_at st held.additions).count ∷ []

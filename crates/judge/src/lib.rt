@@ -14,7 +14,7 @@ ghost use Rattle.ingest.specs.Judgement.{incepted, rotates, interacts};
 ghost use Rattle.parts.specs.Parts.{body_of};
 ghost use Rattle.record.specs.Marks.{state_of, event_of};
 ghost use Rattle.judge.specs.Parts.{list_at, identity_at, next_form_at, start_at, keys_at, witnesses_at};
-ghost use Rattle.judge.specs.Parts.{chains_at, forms_at, signed_at, opening_at, changed_at};
+ghost use Rattle.judge.specs.Parts.{chains_at, forms_at, signed_at, opening_at, changed_at, moving_at, standing_at};
 
 use answer::Refusal;
 use cursor::Listing;
@@ -208,7 +208,7 @@ fn rewitness(
     rules::rewitnessed(current, cuts, adds, b.toad, v)
 }
 
-#[tactic(auto, using(crate::proofs::Laws::opening_stops, crate::proofs::Laws::rewitness_answers))]
+#[tactic(auto, using(rules::proofs::Laws::change_stops, crate::proofs::Laws::opening_stops, crate::proofs::Laws::rewitness_answers))]
 pub fn rotate(st: &[u8], sm: StateMarks, s: &[u8], m: EventMarks) -> Result<Items, Refusal>
     ensures { change_as result ≡ changed (rotates (state_of st.now sm) (event_of Rotation s.now m)) (new_witnesses (state_of st.now sm) (body_of s.now m.body)) }
 {
@@ -219,15 +219,31 @@ pub fn rotate(st: &[u8], sm: StateMarks, s: &[u8], m: EventMarks) -> Result<Item
     rewitness(st, sm.body.additions, s, m.body, v)
 }
 
-#[tactic(auto, using(answer::proofs::Results::refuses, crate::proofs::Laws::interaction_at_lem), unfolding(answer::specs::Answer::first_refusal, rules::specs::Rules::interaction))]
+// 37; 33 to 36.
+#[tactic(auto, using(answer::proofs::Results::refuses), unfolding(answer::specs::Answer::first_refusal))]
+fn interaction_start(st: &[u8], sm: StateMarks, s: &[u8], h: HeadMarks) -> Result<(), Refusal>
+    ensures { answered result ≡ first_refusal (moving_at st.now sm s.now h) }
+{
+    rules::only_establishment(field::copy_config(st, sm.body.config))?;
+    chain(st, sm.head, s, h)
+}
+
+// 27 with the state's keys; 32 with the state's witnesses.
+#[tactic(auto, using(answer::proofs::Results::refuses), unfolding(answer::specs::Answer::first_refusal))]
+fn interaction_signed(st: &[u8], held: BodyMarks, v: Evidence) -> Result<(), Refusal>
+    ensures { answered result ≡ first_refusal (standing_at st.now held v) }
+{
+    threshold_at::quorum(st, held.signers.authority.threshold, v.verified)
+        .map_err(Refusal::MissingSignatures)?;
+    evidence::receipted(held.toad, v, field::count_items(st, held.additions))
+}
+
+#[tactic(auto, using(crate::proofs::Laws::moving_stops, crate::proofs::Laws::standing_answers))]
 pub fn interact(st: &[u8], sm: StateMarks, s: &[u8], m: EventMarks) -> Result<(), Refusal>
     ensures { answered result ≡ interacts (state_of st.now sm) (event_of Interaction s.now m) }
 {
-    let own = sm.body.signers.authority;
-    rules::only_establishment(field::copy_config(st, sm.body.config))?;
-    chain(st, sm.head, s, m.head)?;
-    let keys = field::count_items(st, own.items);
+    interaction_start(st, sm, s, m.head)?;
+    let keys = field::count_items(st, sm.body.signers.authority.items);
     let v = record::gather(s, m.tail, keys, 0);
-    threshold_at::quorum(st, own.threshold, v.verified).map_err(Refusal::MissingSignatures)?;
-    evidence::receipted(sm.body.toad, v, field::count_items(st, sm.body.additions))
+    interaction_signed(st, sm.body, v)
 }
