@@ -238,7 +238,7 @@ fn interaction_signed(st: &[u8], held: BodyMarks, v: Evidence) -> Result<(), Ref
     evidence::receipted(held.toad, v, field::count_items(st, held.additions))
 }
 
-#[tactic(auto, using(crate::proofs::Laws::moving_stops, crate::proofs::Laws::standing_answers))]
+#[tactic(auto, using(answer::proofs::Results::refuses, crate::proofs::Laws::standing_answers), unfolding(answer::specs::Answer::first_refusal, rules::specs::Rules::interaction))]
 pub fn interact(st: &[u8], sm: StateMarks, s: &[u8], m: EventMarks) -> Result<(), Refusal>
     ensures { answered result ≡ interacts (state_of st.now sm) (event_of Interaction s.now m) }
 {
