@@ -10,7 +10,6 @@ use lib.ListN.{length}
 use borrow.Author.Tests.{le-leb, leb-true, eqb-true}
 use Rattle.lists.specs.Lists.{pick, both, any, filter}
 use Rattle.lists.proofs.Facts.{both_true}
-use Rattle.number.specs.declared.Number.{Number}
 use Rattle.answer.specs.declared.Answer.{Answer}
 use Rattle.answer.specs.declared.Refusal.{Refusal}
 use Rattle.answer.specs.Refusal.{answer_of}
@@ -22,20 +21,18 @@ use Rattle.items.specs.declared.Items.{Items}
 use Rattle.items.specs.Items.{listed, packed}
 use Rattle.items.proofs.Laws.{listed-packed}
 use Rattle.toad.specs.Toad.{witness_threshold}
-use Rattle.member_set.specs.Members.{Change, repeat_from, absent, witness_faults, change_faults, joined, updated, change_of}
+use Rattle.member_set.specs.Members.{repeat_from, absent, witness_faults, change_faults, joined, updated, change_of}
 use Rattle.verification.specs.Verification.{signatures, packed_sigers}
-use Rattle.event.specs.declared.Head.{Head}
 use Rattle.event.specs.declared.Ilk.TheVariants.{Inception, Rotation, Interaction}
 use Rattle.evidence.specs.declared.Evidence.{Evidence}
 use Rattle.evidence.specs.Evidence.{evidence_of, signed_on, receipted_on}
-use Rattle.rules.specs.Rules.{chains_onto, of_prefix, may_interact, interaction, rewitness, rotation, witness_stages, changed, new_witnesses}
-use Rattle.rules.proofs.Laws.{change_stops}
+use Rattle.rules.specs.Rules.{of_prefix, interaction, rewitness, rotation, witness_stages, changed, new_witnesses}
 use Rattle.reserved.proofs.Laws.{incepts}
 use Rattle.ingest.specs.Judgement.{incepted, rotates, interacts}
 use Rattle.ingest.proofs.Laws.{incept_lists, rotate_lists, interact_lists}
 use Rattle.cursor.specs.Spans.{list_of, many_of}
 use Rattle.cursor.proofs.Laws.{list_length}
-use Rattle.field.specs.Field.{item_of, items_of, config_of}
+use Rattle.field.specs.Field.{item_of, items_of}
 use Rattle.wire.specs.Wire.{sigers_of}
 use Rattle.cursor.specs.declared.Listing.{Listing}
 use Rattle.parts.specs.Parts.{head_of, body_of}
@@ -44,7 +41,7 @@ use Rattle.record.specs.declared.EventMarks.{EventMarks}
 use Rattle.record.specs.declared.StateMarks.{StateMarks}
 use Rattle.record.specs.Marks.{state_of, event_of}
 use Rattle.record.proofs.Laws.{evidence_as}
-use Rattle.judge.specs.Parts.{list_at, threshold_at, evidence_at, start_at, keys_at, witnesses_at, chains_at, opening_at, moving_at, standing_at, rewitness_at, changed_at}
+use Rattle.judge.specs.Parts.{list_at, threshold_at, evidence_at, start_at, keys_at, witnesses_at, opening_at, moving_at, standing_at, rewitness_at, changed_at}
 
 -- ---- what is not looked at
 none_of : (s : List ℕ) (p : ℕ) → many_of (item_of s) 33 16 s 0 p ≡ []

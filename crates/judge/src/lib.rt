@@ -151,8 +151,9 @@ fn rotation_signed(
     ensures { answered result ≡ first_refusal (signed_at st.now old s.now own v) }
 {
     threshold_at::quorum(s, own.threshold, v.verified).map_err(Refusal::MissingSignatures)?;
-    threshold_at::quorum(st, old.threshold, v.exposed)
-        .map_err(Refusal::PriorNextThresholdUnsatisfied)
+    threshold_at::quorum(st, old.threshold, v.exposed).map_err(
+        Refusal::PriorNextThresholdUnsatisfied,
+    )
 }
 
 // 33 to 36; the own threshold; the next threshold; 27; 28.
@@ -190,13 +191,7 @@ fn no_change(cut: Listing, added: Listing) -> bool
 
 // 18 to 22; 38; 30 or 31; 32 of the resulting list.
 #[tactic(auto, using(crate::proofs::Laws::no_change))]
-fn rewitness(
-    st: &[u8],
-    old: Listing,
-    s: &[u8],
-    b: BodyMarks,
-    v: Evidence,
-) -> Result<Items, Refusal>
+fn rewitness(st: &[u8], old: Listing, s: &[u8], b: BodyMarks, v: Evidence) -> Result<Items, Refusal>
     ensures { change_as result ≡ changed_at (listed (list_at st.now old)) (listed (list_at s.now b.removals)) (listed (list_at s.now b.additions)) b.toad v }
 {
     if no_change(b.removals, b.additions) {
@@ -208,7 +203,7 @@ fn rewitness(
     rules::rewitnessed(current, cuts, adds, b.toad, v)
 }
 
-#[tactic(auto, using(rules::proofs::Laws::change_stops, crate::proofs::Laws::opening_stops, crate::proofs::Laws::rewitness_answers))]
+#[tactic(auto, using(crate::proofs::Laws::rewitness_answers))]
 pub fn rotate(st: &[u8], sm: StateMarks, s: &[u8], m: EventMarks) -> Result<Items, Refusal>
     ensures { change_as result ≡ changed (rotates (state_of st.now sm) (event_of Rotation s.now m)) (new_witnesses (state_of st.now sm) (body_of s.now m.body)) }
 {
@@ -233,8 +228,9 @@ fn interaction_start(st: &[u8], sm: StateMarks, s: &[u8], h: HeadMarks) -> Resul
 fn interaction_signed(st: &[u8], held: BodyMarks, v: Evidence) -> Result<(), Refusal>
     ensures { answered result ≡ first_refusal (standing_at st.now held v) }
 {
-    threshold_at::quorum(st, held.signers.authority.threshold, v.verified)
-        .map_err(Refusal::MissingSignatures)?;
+    threshold_at::quorum(st, held.signers.authority.threshold, v.verified).map_err(
+        Refusal::MissingSignatures,
+    )?;
     evidence::receipted(held.toad, v, field::count_items(st, held.additions))
 }
 
