@@ -63,13 +63,6 @@ no_faults = refl
 pub no_witnesses : (s : List ℕ) (n p : ℕ) → n ≡ 0 → accepted ≡ witness_faults 1 (listed (items_of s n p))
 no_witnesses s n p z = rw (nothing_at s n p z) no_faults
 
--- ---- a rotation's opening
--- a check and two groups of checks
-pub then_groups : (x : Answer) (ys zs : List Answer) → first_refusal (x ∷ first_refusal ys ∷ first_refusal zs ∷ []) ≡ first_refusal (x ∷ (ys ++ zs))
-then_groups x ys zs =
-    tail_same (x ∷ []) (first_refusal ys ∷ first_refusal zs ∷ []) (ys ++ zs)
-    (grouped ys (first_refusal zs ∷ []) ∙ tail_same ys (first_refusal zs ∷ []) zs (sym (last (first_refusal zs) (first_refusal zs) (clean_first zs) refl)))
-
 -- ---- signatures where they stand
 gathered : (s : List ℕ) (t : TailMarks) (keys next keys' next' : ℕ) (v : Evidence) → v ≡ evidence_at s t keys next → keys ≡ keys' → next ≡ next'
     → v ≡ evidence_of keys' next' (signatures (packed_sigers (sigers_of s t.sigs.count t.sigs.first))) (signatures (packed_sigers (sigers_of s t.receipts.count t.receipts.first)))
@@ -130,9 +123,6 @@ module _ (st : List ℕ) (sm : StateMarks) (s : List ℕ) (m : EventMarks) where
       ∙ tail_same (moving_at st sm s m.head) (first_refusal (standing_at st sm.body v) ∷ []) (standing_at st sm.body v) (sym (last _ _ (clean_first (standing_at st sm.body v)) refl))
       ∙ interact_lists (state_of st sm) (event_of Interaction s m) v (gathered s m.tail keys 0 _ 0 v ev ek refl)
 
-  pub moving_stops : (r : Refusal) → answer_of r ≡ first_refusal (moving_at st sm s m.head) → answer_of r ≡ moves
-  moving_stops r e = stops r _ _ e ∙ interaction_at_lem _ _ refl refl
-
   pub standing_answers : (keys : ℕ) (v : Evidence) → accepted ≡ first_refusal (moving_at st sm s m.head)
       → keys ≡ (list_at st sm.body.signers.authority.items).count → v ≡ evidence_at s m.tail keys 0
       → (x : Answer) → x ≡ first_refusal (standing_at st sm.body v) → x ≡ moves
@@ -175,11 +165,11 @@ module _ (s : List ℕ) (n p : ℕ) where
   unfolding items_of
   packed_at = ap packed (sym (listed-packed (many_of (item_of s) 33 16 s n p)))
 
-  pub listed_few : length (listed (items_of s n p)) ≤ 16
+  listed_few : length (listed (items_of s n p)) ≤ 16
   unfolding items_of
   listed_few = rw (listed-packed (many_of (item_of s) 33 16 s n p)) (few_at s n p)
 
-  pub listed_count : (items_of s n p).count ≡ length (listed (items_of s n p))
+  listed_count : (items_of s n p).count ≡ length (listed (items_of s n p))
   listed_count = ap (λ (l : Items). l.count) packed_at
 
   -- so no change is 30 or 31, then 32, of that list

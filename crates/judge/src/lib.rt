@@ -67,18 +67,17 @@ fn next_form(s: &[u8], q: QuorumMarks, next: usize) -> Result<(), Refusal>
 #[tactic(auto, using(answer::proofs::Results::refuses), unfolding(answer::specs::Answer::first_refusal))]
 fn inception_start(
     s: &[u8],
-    h: HeadMarks,
-    b: BodyMarks,
+    m: EventMarks,
     prefix: Item,
     next: usize,
     witnesses: usize,
-    anchors: u32,
 ) -> Result<(), Refusal>
-    ensures { answered result ≡ first_refusal (start_at s.now h b prefix next witnesses anchors) }
+    ensures { answered result ≡ first_refusal (start_at s.now m.head m.body prefix next witnesses m.tail.anchors) }
 {
-    rules::genesis(prefix, h.sn)?;
-    identity(s, b.signers.authority, prefix, next, witnesses, anchors)?;
-    witnesses_good(s, b.additions)
+    let own = m.body.signers.authority;
+    rules::genesis(prefix, m.head.sn)?;
+    identity(s, own, prefix, next, witnesses, m.tail.anchors)?;
+    witnesses_good(s, m.body.additions)
 }
 
 // The own threshold; 27; the next threshold.
@@ -116,7 +115,7 @@ pub fn incept(s: &[u8], m: EventMarks) -> Result<(), Refusal>
     let next = field::count_items(s, m.body.signers.commitment.items);
     let witnesses = field::count_items(s, m.body.additions);
     let prefix = field::copy_item(s, m.head.prefix);
-    inception_start(s, m.head, m.body, prefix, next, witnesses, m.tail.anchors)?;
+    inception_start(s, m, prefix, next, witnesses)?;
     let v = record::gather(s, m.tail, keys, 0);
     inception_keys(s, m.body.signers, keys, next, v)?;
     check_witnesses(m.body.toad, witnesses, v)
@@ -151,9 +150,8 @@ fn rotation_signed(
     ensures { answered result ≡ first_refusal (signed_at st.now old s.now own v) }
 {
     threshold_at::quorum(s, own.threshold, v.verified).map_err(Refusal::MissingSignatures)?;
-    threshold_at::quorum(st, old.threshold, v.exposed).map_err(
-        Refusal::PriorNextThresholdUnsatisfied,
-    )
+    let exposed = threshold_at::quorum(st, old.threshold, v.exposed);
+    exposed.map_err(Refusal::PriorNextThresholdUnsatisfied)
 }
 
 // 33 to 36; the own threshold; the next threshold; 27; 28.
@@ -228,9 +226,8 @@ fn interaction_start(st: &[u8], sm: StateMarks, s: &[u8], h: HeadMarks) -> Resul
 fn interaction_signed(st: &[u8], held: BodyMarks, v: Evidence) -> Result<(), Refusal>
     ensures { answered result ≡ first_refusal (standing_at st.now held v) }
 {
-    threshold_at::quorum(st, held.signers.authority.threshold, v.verified).map_err(
-        Refusal::MissingSignatures,
-    )?;
+    let own = held.signers.authority.threshold;
+    threshold_at::quorum(st, own, v.verified).map_err(Refusal::MissingSignatures)?;
     evidence::receipted(held.toad, v, field::count_items(st, held.additions))
 }
 
