@@ -65,7 +65,3 @@ counted_as which (Err few) = too_few which few
 abbrev pub answered : Result (Unit {0}) Refusal → Answer
 answered (Ok done) = accepted
 answered (Err r) = answer_of r
-
--- its number alone: of a shape
-abbrev pub fault_of : Result (Unit {0}) Refusal → ℕ
-fault_of r = (answered r).number

@@ -3,7 +3,8 @@
 
 ghost use Rattle.std.specs.Prelude.{◌≡◌, eqb, drop};
 ghost use Rattle.lists.specs.Lists.{all};
-ghost use Rattle.answer.specs.Refusal.{fault_of};
+ghost use Rattle.answer.specs.Answer.{refused};
+ghost use Rattle.answer.specs.Refusal.{answered};
 ghost use Rattle.config.specs.Config.{traits_of, is_trait, shape_of, establishment_only};
 
 use answer::Refusal;
@@ -37,7 +38,7 @@ fn unused_zero(c: Config) -> bool
 // TooMany where the count is above 8, BadField where a used place is no trait or an unused one is not zero.
 #[tactic(auto, unfolding(crate::specs::Config::shape_of))]
 pub fn shape(c: Config) -> Result<(), Refusal>
-    ensures { fault_of result ≡ shape_of c }
+    ensures { answered result ≡ refused (shape_of c) 0 0 }
 {
     if 8 < c.count {
         return Err(Refusal::TooMany);

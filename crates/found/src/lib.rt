@@ -2,118 +2,83 @@
 #![tactic(auto)]
 
 ghost use Rattle.std.specs.Prelude.{◌≡◌, ◌+◌, ◌*◌, length, take};
-ghost use Rattle.layout.specs.Records.{inception_at, rotation_at, interaction_at, snapshot_at, as_event, as_snapshot, content_of, first_of, next_in};
+ghost use Rattle.layout.specs.Records.{content_of, first_of, next_in};
 ghost use Rattle.found.specs.Kept.{state_in, kept_in};
 ghost use Rattle.found.specs.Found.{content_is, Placed, first_is, Within, kept_is, Framed, Room};
 
-use cursor::Num16;
-use record::{EventMarks, EventScan, StateMarks, StateScan};
+use answer::Refusal;
+use record::{EventMarks, StateMarks};
 
+// The body of a delegated event is not read.
 #[derive(Clone, Copy)]
-pub enum Read {
+pub enum Content {
     Inception(EventMarks),
     Rotation(EventMarks),
     Interaction(EventMarks),
     DelegatedInception,
     DelegatedRotation,
     Snapshot(StateMarks),
-    No(u8),
 }
 
-// The mark, and where the next record starts.
-#[derive(Clone, Copy)]
-pub enum First {
-    Of(u16, usize),
-    Short,
-}
+// The marks: their two letters as a big-endian number.
+const IC: u16 = 0x4943;
 
-#[derive(Clone, Copy)]
-pub enum Held {
-    Of(StateMarks),
-    Nothing,
-    No(u8),
-}
+const RO: u16 = 0x524F;
 
-fn of_inception(s: &[u8]) -> Read
-    ensures result_value { content_is s.now result ≡ as_event (inception_at s.now 0) }
-    ensures placed { Placed s.now result }
-{
-    match record::scan_inception(s, 0) {
-        EventScan::Of(m, _) => Read::Inception(m),
-        EventScan::No(k) => Read::No(k),
-    }
-}
+const IX: u16 = 0x4958;
 
-fn of_rotation(s: &[u8]) -> Read
-    ensures result_value { content_is s.now result ≡ as_event (rotation_at s.now 0) }
-    ensures placed { Placed s.now result }
-{
-    match record::scan_rotation(s, 0) {
-        EventScan::Of(m, _) => Read::Rotation(m),
-        EventScan::No(k) => Read::No(k),
-    }
-}
+const DI: u16 = 0x4449;
 
-fn of_interaction(s: &[u8]) -> Read
-    ensures result_value { content_is s.now result ≡ as_event (interaction_at s.now 0) }
-    ensures placed { Placed s.now result }
-{
-    match record::scan_interaction(s, 0) {
-        EventScan::Of(m, _) => Read::Interaction(m),
-        EventScan::No(k) => Read::No(k),
-    }
-}
+const DR: u16 = 0x4452;
 
-fn of_snapshot(s: &[u8]) -> Read
-    ensures result_value { content_is s.now result ≡ as_snapshot (snapshot_at s.now 0) }
-    ensures placed { Placed s.now result }
-{
-    match record::scan_snapshot(s, 0) {
-        StateScan::Of(m, _) => Read::Snapshot(m),
-        StateScan::No(k) => Read::No(k),
-    }
-}
+const KS: u16 = 0x4B53;
 
 // A body by its mark. "DI and DR delegated (body not read)"
-pub fn by_mark(mark: u16, s: &[u8]) -> Read
+#[tactic(auto, unfolding(layout::specs::Records::content_of))]
+pub fn by_mark(mark: u16, s: &[u8]) -> Result<Content, Refusal>
     ensures result_value { content_is s.now result ≡ content_of mark s.now }
     ensures placed { Placed s.now result }
 {
-    if mark == 0x4943 {
-        return of_inception(s);
+    match mark {
+        IC => {
+            let (m, _) = record::scan_inception(s, 0)?;
+            Ok(Content::Inception(m))
+        }
+        RO => {
+            let (m, _) = record::scan_rotation(s, 0)?;
+            Ok(Content::Rotation(m))
+        }
+        IX => {
+            let (m, _) = record::scan_interaction(s, 0)?;
+            Ok(Content::Interaction(m))
+        }
+        DI => Ok(Content::DelegatedInception),
+        DR => Ok(Content::DelegatedRotation),
+        KS => {
+            let (m, _) = record::scan_snapshot(s, 0)?;
+            Ok(Content::Snapshot(m))
+        }
+        _ => Err(Refusal::UnknownMark),
     }
-    if mark == 0x524F {
-        return of_rotation(s);
-    }
-    if mark == 0x4958 {
-        return of_interaction(s);
-    }
-    if mark == 0x4449 {
-        return Read::DelegatedInception;
-    }
-    if mark == 0x4452 {
-        return Read::DelegatedRotation;
-    }
-    if mark == 0x4B53 {
-        return of_snapshot(s);
-    }
-    Read::No(2)
 }
 
-pub fn first_record(s: &[u8]) -> First
+// The mark, and where the next record starts; none where the bytes are cut short.
+#[tactic(auto, using(crate::proofs::Laws::framing))]
+pub fn first_record(s: &[u8]) -> Option<(u16, usize)>
     ensures result_value { first_is s.now result ≡ first_of s.now }
     ensures within { Within s.now result }
 {
-    let Num16::Of(mark, at) = cursor::read_u16(s, 0) else {
-        return First::Short;
+    let Some((mark, at)) = cursor::read_u16(s, 0) else {
+        return None;
     };
-    let Num16::Of(n, body) = cursor::read_u16(s, at) else {
-        return First::Short;
+    let Some((n, body)) = cursor::read_u16(s, at) else {
+        return None;
     };
-    if s.len() - body < n as usize {
-        return First::Short;
+    let next = body + n as usize;
+    if s.len() < next {
+        return None;
     }
-    First::Of(mark, body + n as usize)
+    Some((mark, next))
 }
 
 // How many bytes the first record takes, refused or not; all of them where it is cut short.
@@ -121,44 +86,42 @@ pub fn length(s: &[u8]) -> usize
     ensures { result ≡ next_in s.now (first_of s.now) }
 {
     match first_record(s) {
-        First::Of(_, next) => next,
-        First::Short => s.len(),
+        Some((_, next)) => next,
+        None => s.len(),
     }
 }
 
 // What a state's bytes hold. A body's own refusal comes before the 3 of bytes behind its record.
-pub fn in_bytes(s: &[u8]) -> Held
+#[tactic(auto, using(crate::proofs::Laws::keeping))]
+pub fn in_bytes(s: &[u8]) -> Result<Option<StateMarks>, Refusal>
     ensures result_value { kept_is s.now result ≡ state_in s.now }
     ensures framed { Framed s.now result }
 {
-    let len = s.len();
-    if len == 0 {
-        return Held::Nothing;
+    if s.is_empty() {
+        return Ok(None);
     }
-    let First::Of(mark, next) = first_record(s) else {
-        return Held::No(1);
+    let Some((mark, next)) = first_record(s) else {
+        return Err(Refusal::Truncated);
     };
-    if mark != 0x4B53 {
-        return Held::No(2);
+    if mark != KS {
+        return Err(Refusal::UnknownMark);
     }
-    let scan = record::scan_snapshot(&s[4..next], 0);
-    let StateScan::Of(m, _) = scan else {
-        return Held::No(record::refusal_of_state(scan));
-    };
-    if next != len {
-        return Held::No(3);
+    let (m, _) = record::scan_snapshot(&s[4..next], 0)?;
+    if next != s.len() {
+        return Err(Refusal::BadField);
     }
-    Held::Of(m)
+    Ok(Some(m))
 }
 
 // What the used bytes of a buffer hold.
-pub fn in_buffer(buf: &[u8], used: usize) -> Held
+#[tactic(auto, using(crate::proofs::Laws::kept_over, crate::proofs::Laws::kept_within))]
+pub fn in_buffer(buf: &[u8], used: usize) -> Result<Option<StateMarks>, Refusal>
     ensures result_value { kept_is (take used buf.now) result ≡ kept_in buf.now used }
     ensures framed { Framed (take used buf.now) result }
     ensures room { Room used (length buf.now) result }
 {
     if buf.len() < used {
-        return Held::No(1);
+        return Err(Refusal::Truncated);
     }
-    in_bytes(&buf[0..used])
+    in_bytes(&buf[..used])
 }

@@ -4,15 +4,18 @@ use mathlib.Core.Path.{◌≡◌, refl, sym, ◌∙◌, ap, ap₂}
 use mathlib.Core.Bool.{Bool, true, false}
 use mathlib.Core.List.{List, ◌∷◌, []}
 use Prim.Native.Nat.{ℕ}
-use borrow.Author.Tests.{eq-eqb, ne_eqb}
 use Rattle.lists.specs.Lists.{pick}
 use Rattle.lists.proofs.Facts.{clash}
 use Rattle.answer.specs.declared.Answer.{Answer}
-use Rattle.answer.specs.Answer.{refused, first_refusal}
-use Rattle.answer.proofs.Laws.{Clean, clean_first, here, past, last}
+use Rattle.answer.specs.declared.Refusal.{Refusal}
+use Rattle.answer.specs.Answer.{accepted, refused}
+use Rattle.answer.specs.Refusal.{answer_of}
+use Rattle.answer.proofs.Laws.{Clean, clean_first, past, last}
+use Rattle.answer.proofs.Results.{refuses, stops, goes_on}
 use Rattle.item.specs.declared.Item.{Item}
 use Rattle.item.specs.declared.Kind.TheVariants.{Prefix}
 use Rattle.item.specs.Item.{item_fits}
+use Rattle.items.specs.declared.Items.{Items}
 use Rattle.items.specs.Items.{packed}
 use Rattle.member_set.specs.Members.{Change}
 use Rattle.verification.specs.Verification.{signatures}
@@ -33,25 +36,17 @@ use Rattle.rules.specs.Rules.{prefix_shape, of_prefix, inception, rotation, inte
 use Rattle.ingest.specs.Judgement.{incepted, rotates, interacts, on_nothing, where_live, on_state, judgement, next_as, next_state, shaped, settled}
 
 -- ---- a refusal leaves the holder, an acceptance holds the next state
-pub stays : (h : Holder) (x whole : Answer) (after : Holder) → x ≡ whole → (x.number ≡ 0 → ⊥) → record { answer = x; holder = h } ≡ settled h whole after
-stays h x whole after e ne = rw (← e, ne_eqb x.number 0 ne)
+pub refuses_as : (h : Holder) (r : Refusal) (whole : Answer) (after : Holder) → answer_of r ≡ whole → record { answer = answer_of r; holder = h } ≡ settled h whole after
+refuses_as h r whole after e = rw (← e, refuses r)
 
-pub goes : (h : Holder) (x whole : Answer) (s t : KeyState) → x ≡ whole → x.number ≡ 0 → s ≡ t → record { answer = x; holder = holding s } ≡ settled h whole (holding t)
-goes h x whole s t e z f = rw (← e, ← f, eq-eqb x.number 0 z)
+pub goes_as : (h : Holder) (s t : KeyState) (whole : Answer) → accepted ≡ whole → s ≡ t → record { answer = accepted; holder = holding s } ≡ settled h whole (holding t)
+goes_as h s t whole e f = rw (← e, f)
 
 -- the list of a change that passes
-pub new_list : (d : Change) (whole : Answer) (new : List Item) → d ≡ changed whole new → d.answer.number ≡ 0 → d.list ≡ packed new
-new_list d whole new e z = rw e (rw (eq-eqb whole.number 0 (rw e at z)))
-
--- ---- by the event's ilk
-module _ (h : Holder) (e : Event) (k : Ilk) (told : e.ilk ≡ k) where
-  pub nothing_as : settled h (on_nothing k e) (holding (next_as k h.state e)) ≡ settled h (on_nothing e.ilk e) (holding (next_state h.state e))
-  unfolding next_state
-  nothing_as = ap (λ (i : Ilk). settled h (on_nothing i e) (holding (next_as i h.state e))) (sym told)
-
-  pub live_as : settled h (where_live k h.state e) (holding (next_as k h.state e)) ≡ settled h (where_live e.ilk h.state e) (holding (next_state h.state e))
-  unfolding next_state
-  live_as = ap (λ (i : Ilk). settled h (where_live i h.state e) (holding (next_as i h.state e))) (sym told)
+pub new_list : (l : Items) (whole : Answer) (new : List Item) → record { answer = accepted; list = l } ≡ changed whole new → (accepted ≡ whole) × (l ≡ packed new)
+new_list l whole new e =
+    let w : accepted ≡ whole = ap (λ (d : Change). d.answer) e in
+    (w, ap (λ (d : Change). d.list) e ∙ rw (← w))
 
 -- ---- from sets of places to lists of signatures
 module _ (e : Event) (keys next : ℕ) (v : Evidence) (is : v ≡ evidence_of keys next (signatures e.sigs) (signatures e.receipts)) where
@@ -123,22 +118,26 @@ of_good prefix x fits clean =
     let shaped-well : prefix_shape prefix ≡ refused 0 0 0 = rw fits in
     past (refused 0 0 0) (prefix_shape prefix) (x ∷ []) (sym shaped-well) refl ∙ sym (last x x clean refl)
 
+-- a live inception's checks
+pub incept_is : (e : Event) (v : Evidence) → v ≡ evidence_of e.body.authority.keys.count 0 (signatures e.sigs) (signatures e.receipts)
+    → item_fits Prefix e.head.prefix ≡ true
+    → of_prefix e.head.prefix (inception e.head e.body e.anchors (signed_on e.body.authority.threshold v) (receipted_on e.body.toad v)) ≡ incepted e
+incept_is e v is fits = of_good e.head.prefix _ fits (clean_inception _ _ _ _ _) ∙ incept_lists e v is
+
 -- ---- an entry: the holder's shape, the event's shape, then x
-module _ (h : Holder) (e : Event) (x : Answer) (after : Holder) (n : ℕ) (en : n ≡ holder_shape h) where
-  pub bad_holder : (n ≡ 0 → ⊥) → record { answer = refused n 0 0; holder = h } ≡ settled h (shaped h e x) after
-  bad_holder ne = stays h (refused n 0 0) _ _ (here (refused n 0 0) (refused (holder_shape h) 0 0) _ (ap (λ (k : ℕ). refused k 0 0) en) ne) ne
+module _ (h : Holder) (e : Event) (x : Answer) where
+  pub holder_stops : (r : Refusal) → answer_of r ≡ refused (holder_shape h) 0 0 → answer_of r ≡ shaped h e x
+  holder_stops r f = stops r _ _ f
 
-  module _ (zn : n ≡ 0) (m : ℕ) (em : m ≡ event_shape e) where
-    good_holder : (xs : List Answer) → first_refusal (refused (holder_shape h) 0 0 ∷ xs) ≡ first_refusal xs
-    good_holder xs = past (refused n 0 0) (refused (holder_shape h) 0 0) xs (ap (λ (k : ℕ). refused k 0 0) en) zn
+  module _ (held : accepted ≡ refused (holder_shape h) 0 0) where
+    pub event_stops : (r : Refusal) → answer_of r ≡ refused (event_shape e) 0 0 → answer_of r ≡ shaped h e x
+    event_stops r f = stops r _ _ f ∙ sym (goes_on _ _ held)
 
-    pub bad_event : (m ≡ 0 → ⊥) → record { answer = refused m 0 0; holder = h } ≡ settled h (shaped h e x) after
-    bad_event ne =
-        stays h (refused m 0 0) _ _ (here (refused m 0 0) (refused (event_shape e) 0 0) _ (ap (λ (k : ℕ). refused k 0 0) em) ne ∙ sym (good_holder _)) ne
+    pub shaped_well : accepted ≡ refused (event_shape e) 0 0 → Clean x → x ≡ shaped h e x
+    shaped_well f clean = last x x clean refl ∙ sym (goes_on _ _ f) ∙ sym (goes_on _ _ held)
 
-    pub good_shape : m ≡ 0 → Clean x → settled h x after ≡ settled h (shaped h e x) after
-    good_shape zm clean =
-        ap (λ (y : Answer). settled h y after) (
-        last x x clean refl
-        ∙ sym (past (refused m 0 0) (refused (event_shape e) 0 0) (x ∷ []) (ap (λ (k : ℕ). refused k 0 0) em) zm)
-        ∙ sym (good_holder _))
+pub good_shape : (h : Holder) (e : Event) (x : Answer) (after : Holder) (n : ℕ) → n ≡ holder_shape h → n ≡ 0 → (m : ℕ) → m ≡ event_shape e → m ≡ 0 → Clean x
+    → settled h x after ≡ settled h (shaped h e x) after
+good_shape h e x after n en zn m em zm clean =
+    let none : (k l : ℕ) → k ≡ l → k ≡ 0 → accepted ≡ refused l 0 0 = λ k l f z. ap (λ (i : ℕ). refused i 0 0) (sym z ∙ f) in
+    ap (λ (y : Answer). settled h y after) (shaped_well h e x (none n (holder_shape h) en zn) (none m (event_shape e) em zm) clean)

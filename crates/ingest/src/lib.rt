@@ -81,6 +81,7 @@ fn on_nothing(e: Event) -> Result<KeyState, Refusal>
     }
 }
 
+#[tactic(auto, unfolding(crate::specs::Judgement::on_state, crate::specs::Judgement::next_state, state::specs::State::may_move))]
 fn on_state(s: KeyState, e: Event) -> Result<KeyState, Refusal>
     ensures { (before : Holder) → settled_as before result ≡ settled before (on_state s e) (holding (next_state s e)) }
 {
@@ -96,6 +97,7 @@ fn on_state(s: KeyState, e: Event) -> Result<KeyState, Refusal>
     }
 }
 
+#[tactic(auto, unfolding(crate::specs::Judgement::judgement, state::specs::State::is_held))]
 fn judge(h: Holder, e: Event) -> Result<KeyState, Refusal>
     requires { event_shape e ≡ 0 }
     ensures { (before : Holder) → settled_as before result ≡ settled before (judgement h e) (holding (next_state h.state e)) }

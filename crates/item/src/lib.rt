@@ -2,7 +2,8 @@
 #![tactic(auto)]
 
 ghost use Rattle.std.specs.Prelude.{◌≡◌};
-ghost use Rattle.answer.specs.Refusal.{fault_of};
+ghost use Rattle.answer.specs.Answer.{refused};
+ghost use Rattle.answer.specs.Refusal.{answered};
 ghost use Rattle.item.specs.Item.{item_shape, class_of, fits_of, basic_of, transferable_of, same_item, zero_item, is_zero};
 ghost use Rattle.item.specs.declared.Kind.TheVariants.{Said};
 
@@ -100,7 +101,7 @@ pub fn is_zero(x: Item) -> bool
 
 // A refusal where the code is outside the class that the place asks for.
 pub fn shape(x: Item, kind: Kind) -> Result<(), Refusal>
-    ensures { fault_of result ≡ item_shape kind x }
+    ensures { answered result ≡ refused (item_shape kind x) 0 0 }
 {
     if fits(x.code, kind) {
         Ok(())

@@ -3,7 +3,8 @@
 
 ghost use Rattle.std.specs.Prelude.{◌≡◌, [], drop};
 ghost use Rattle.lists.specs.Lists.{all, first_from};
-ghost use Rattle.answer.specs.Refusal.{fault_of};
+ghost use Rattle.answer.specs.Answer.{refused};
+ghost use Rattle.answer.specs.Refusal.{answered};
 ghost use Rattle.item.specs.Item.{item_fits, is_zero, same_item};
 ghost use Rattle.items.specs.Items.{listed, packed, shape_of};
 
@@ -46,7 +47,7 @@ fn unused_zero(l: Items) -> bool
 // TooMany where the count is above 16, BadField where a used place is outside its class or an unused one is not zero.
 #[tactic(auto, unfolding(crate::specs::Items::shape_of))]
 pub fn shape(l: Items, kind: Kind) -> Result<(), Refusal>
-    ensures { fault_of result ≡ shape_of kind l }
+    ensures { answered result ≡ refused (shape_of kind l) 0 0 }
 {
     if 16 < l.count {
         return Err(Refusal::TooMany);

@@ -7,7 +7,7 @@ use Rattle.answer.specs.declared.Refusal.{Refusal}
 use Rattle.answer.specs.Answer.{accepted, first_refusal}
 use Rattle.answer.specs.Refusal.{answer_of}
 use Rattle.answer.proofs.Laws.{Clean, clean_first, grouped, tail_same, last}
-use Rattle.answer.proofs.Results.{refuses}
+use Rattle.answer.proofs.Results.{stops, goes_on}
 use Rattle.item.specs.declared.Item.{Item}
 use Rattle.items.specs.Items.{listed, packed}
 use Rattle.member_set.specs.Members.{Change}
@@ -17,15 +17,6 @@ use Rattle.state.specs.declared.KeyState.{KeyState}
 use Rattle.rules.specs.Rules.{chains, own_form, next_form, rewitness, rotation, inception, of_prefix, changed, new_witnesses}
 use Rattle.rules.proofs.Laws.{change_stops}
 use Rattle.reserved.proofs.Laws.{start_of, keys_of, witnesses_of, incepts}
-
--- ---- checks in a row: the first refusal is theirs, and behind one that passed the others are
-stops : (r : Refusal) (x : Answer) (xs : List Answer) → answer_of r ≡ x → answer_of r ≡ first_refusal (x ∷ xs)
-unfolding first_refusal
-stops r x xs e = rw (← e, refuses r)
-
-goes_on : (x : Answer) (xs : List Answer) → accepted ≡ x → first_refusal (x ∷ xs) ≡ first_refusal xs
-unfolding first_refusal
-goes_on x xs e = rw (← e)
 
 -- ---- an inception from its groups of checks
 module _ (h : Head) (b : Body) (anchors : ℕ) (signed : Answer) (receipted : ℕ → Answer) where

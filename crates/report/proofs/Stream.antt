@@ -22,7 +22,6 @@ use Rattle.decoded.proofs.Bound.{first-bytes}
 use Rattle.ingest.specs.Judgement.{turned_away}
 use Rattle.receive.specs.Received.{taken, unless_bad, body_taken, received}
 use Rattle.report.specs.declared.Tally.{Tally}
-use Rattle.report.proofs.Laws.{none}
 use Rattle.report.specs.Report.{counted, line_of, last_line, cut_answer, reported}
 
 -- a byte string that begins with a whole record
@@ -41,6 +40,11 @@ whole_received : (h : Holder) (s : List ℕ) → Whole s
     → received h s ≡ record { offered = body_taken h (mark_of s) (take (body_length s) (drop 4 s)); mark = mark_of s; next = 4 + body_length s }
 unfolding received first_of body_taken
 whole_received h s w = rw (le-leb 4 (length s) w.0, le-leb (4 + body_length s) (length s) w.1)
+
+-- bytes that are no record
+none : first_of [] ≡ truncated
+unfolding first_of
+none = refl
 
 cut-received : (h : Holder) (s : List ℕ) → first_of s ≡ truncated → received h s ≡ record { offered = (received h []).offered; mark = 0; next = length s }
 unfolding received

@@ -4,11 +4,9 @@
 ghost use Rattle.std.specs.Prelude.{◌≡◌};
 ghost use Rattle.lines.specs.Lines.{written};
 ghost use Rattle.found.specs.Kept.{kept_in};
-ghost use Rattle.report.specs.Report.{one_more, counted, told, end_with, last_line, untold};
+ghost use Rattle.report.specs.Report.{one_more, counted, told, last_line, untold};
 
 use answer::Answer;
-use found::Held;
-use number::Number;
 
 // How many lines there are, and how many have answer 0.
 #[derive(Clone, Copy)]
@@ -34,61 +32,51 @@ pub fn begin() -> Tally
     }
 }
 
+#[tactic(auto, unfolding(crate::specs::Report::one_more))]
 fn one_more(n: u64) -> u64
     ensures { result ≡ one_more n }
 {
-    if n < 0xffff_ffff_ffff_ffff { n + 1 } else { n }
+    n.saturating_add(1)
 }
 
+#[tactic(auto, unfolding(crate::specs::Report::counted))]
 fn count(t: Tally, x: Answer) -> Tally
     ensures { result ≡ counted t x }
 {
-    let offered = one_more(t.offered);
-    if x.number == 0 {
-        let accepted = one_more(t.accepted);
-        return Tally { offered, accepted };
-    }
+    let accepted = if x.number == 0 {
+        one_more(t.accepted)
+    } else {
+        t.accepted
+    };
     Tally {
-        offered,
-        accepted: t.accepted,
+        offered: one_more(t.offered),
+        accepted,
     }
 }
 
 // The line of a record's answer, written over `out` from `at` on.
+#[tactic(auto, unfolding(crate::specs::Report::told, crate::specs::Report::line_of))]
 pub fn tell(t: Tally, mark: u16, x: Answer, out: &mut [u8], at: usize) -> Told
     ensures value { result ≡ (told t mark x at out.old).0 }
     ensures out_after { out.new ≡ (told t mark x at out.old).1 }
 {
     let ordinal = one_more(t.offered);
-    let behind = lines::put_line(out, at, ordinal, mark, x);
+    let at = lines::put_line(out, at, ordinal, mark, x);
     let tally = count(t, x);
-    Told { tally, at: behind }
-}
-
-fn end_line(t: Tally, held: bool, sn: Number, out: &mut [u8], at: usize) -> usize
-    ensures value { result ≡ (written (end_with t held sn) at out.old).0 }
-    ensures out_after { out.new ≡ (written (end_with t held sn) at out.old).1 }
-{
-    lines::put_end(out, at, t.accepted, t.offered, held, sn)
+    Told { tally, at }
 }
 
 // The last line, with how far the state in the used bytes of a buffer is.
+#[tactic(auto, unfolding(crate::specs::Report::last_line, state::specs::State::is_held))]
 pub fn tell_end(t: Tally, state: &[u8], used: usize, out: &mut [u8], at: usize) -> usize
     ensures value { result ≡ (written (last_line t (kept_in state.now used).holder) at out.old).0 }
     ensures out_after { out.new ≡ (written (last_line t (kept_in state.now used).holder) at out.old).1 }
 {
     match found::in_buffer(state, used) {
-        Held::Of(m) => {
-            let head = m.head;
-            end_line(t, true, head.sn, out, at)
-        }
-        Held::Nothing => {
-            let zero = number::from_u64(0);
-            end_line(t, false, zero, out, at)
-        }
-        Held::No(_) => {
-            let zero = number::from_u64(0);
-            end_line(t, false, zero, out, at)
+        Ok(Some(m)) => lines::put_end(out, at, t.accepted, t.offered, true, m.head.sn),
+        _ => {
+            let none = number::from_u64(0);
+            lines::put_end(out, at, t.accepted, t.offered, false, none)
         }
     }
 }

@@ -2,36 +2,19 @@
 #![tactic(auto)]
 
 ghost use Rattle.std.specs.Prelude.{◌≡◌};
-ghost use Rattle.found.specs.Kept.{none, state_in};
+ghost use Rattle.found.specs.Kept.{state_in};
 ghost use Rattle.restore.specs.Restore.{restored_is};
 
-use found::Held;
+use answer::Refusal;
 use state::Holder;
 
-// The number is 0 where the bytes are a state or nothing, else 1 to 4 with nothing held.
-#[derive(Clone, Copy)]
-pub struct Restored {
-    pub number: u8,
-    pub holder: Holder,
-}
-
-fn nothing(number: u8) -> Restored
-    ensures { restored_is result ≡ none number }
-{
-    let holder = empty::nothing();
-    Restored { number, holder }
-}
-
-pub fn restore(s: &[u8]) -> Restored
+// No bytes are an empty holder; a refusal is one of the first four, 1 to 4.
+#[tactic(auto, using(crate::proofs::Laws::state_restored))]
+pub fn restore(s: &[u8]) -> Result<Holder, Refusal>
     ensures { restored_is result ≡ state_in s.now }
 {
-    match found::in_bytes(s) {
-        Held::Of(m) => {
-            let copied = record::copy_state(&s[4..], m);
-            let holder = state::hold(copied);
-            Restored { number: 0, holder }
-        }
-        Held::Nothing => nothing(0),
-        Held::No(n) => nothing(n),
+    match found::in_bytes(s)? {
+        Some(m) => Ok(state::hold(record::copy_state(&s[4..], m))),
+        None => Ok(empty::nothing()),
     }
 }

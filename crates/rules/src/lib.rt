@@ -64,7 +64,7 @@ fn genesis_sn(sn: Number) -> Result<(), Refusal>
 }
 
 // 3 for a prefix that is none, then 11.
-#[tactic(auto, using(answer::proofs::Results::refuses, threshold::proofs::Laws::no_details), unfolding(answer::specs::Answer::first_refusal))]
+#[tactic(auto, using(answer::proofs::Results::refuses), unfolding(answer::specs::Answer::first_refusal))]
 pub fn genesis(prefix: Item, sn: Number) -> Result<(), Refusal>
     ensures { answered result ≡ genesis_head prefix sn }
 {

@@ -3,7 +3,8 @@
 #![tactic(auto, using(answer::proofs::Results::refuses), unfolding(answer::specs::Answer::first_fault, state::specs::State::is_held, crate::specs::Event::first_head, crate::specs::Event::later_head, crate::specs::Event::own_shape, crate::specs::Event::next_shape, crate::specs::Event::body_shape, crate::specs::Event::signed_shape, crate::specs::Event::event_shape, crate::specs::State::state_head, crate::specs::State::state_tail, crate::specs::State::state_shape, crate::specs::State::holder_shape))]
 
 ghost use Rattle.std.specs.Prelude.{◌≡◌};
-ghost use Rattle.answer.specs.Refusal.{fault_of};
+ghost use Rattle.answer.specs.Answer.{refused};
+ghost use Rattle.answer.specs.Refusal.{answered};
 ghost use Rattle.event.specs.declared.Ilk.TheVariants.{Inception, Rotation, Interaction};
 ghost use Rattle.shape.specs.Event.{first_head, later_head, own_shape, next_shape, body_shape, signed_shape, shape_as, event_shape};
 ghost use Rattle.shape.specs.State.{latest_shape, state_head, state_tail, state_shape, holder_shape};
@@ -15,35 +16,35 @@ use item::Kind;
 use state::{Holder, KeyState};
 
 fn first_head(h: Head) -> Result<(), Refusal>
-    ensures { fault_of result ≡ first_head h }
+    ensures { answered result ≡ refused (first_head h) 0 0 }
 {
     item::shape(h.prefix, Kind::Prefix)?;
     item::shape(h.said, Kind::Said)
 }
 
 fn later_head(h: Head) -> Result<(), Refusal>
-    ensures { fault_of result ≡ later_head h }
+    ensures { answered result ≡ refused (later_head h) 0 0 }
 {
     first_head(h)?;
     item::shape(h.prior, Kind::Said)
 }
 
 fn own_shape(a: Authority) -> Result<(), Refusal>
-    ensures { fault_of result ≡ own_shape a }
+    ensures { answered result ≡ refused (own_shape a) 0 0 }
 {
     items::shape(a.keys, Kind::Key)?;
     threshold::shape(a.threshold)
 }
 
 fn next_shape(c: Commitment) -> Result<(), Refusal>
-    ensures { fault_of result ≡ next_shape c }
+    ensures { answered result ≡ refused (next_shape c) 0 0 }
 {
     items::shape(c.next, Kind::Said)?;
     threshold::shape(c.threshold)
 }
 
 fn body_shape(b: Body) -> Result<(), Refusal>
-    ensures { fault_of result ≡ body_shape b }
+    ensures { answered result ≡ refused (body_shape b) 0 0 }
 {
     own_shape(b.authority)?;
     next_shape(b.commitment)?;
@@ -51,14 +52,14 @@ fn body_shape(b: Body) -> Result<(), Refusal>
 }
 
 fn signed_shape(e: Event) -> Result<(), Refusal>
-    ensures { fault_of result ≡ signed_shape e }
+    ensures { answered result ≡ refused (signed_shape e) 0 0 }
 {
     verification::shape(e.sigs)?;
     verification::shape(e.receipts)
 }
 
 fn inception_shape(e: Event) -> Result<(), Refusal>
-    ensures { fault_of result ≡ shape_as Inception e }
+    ensures { answered result ≡ refused (shape_as Inception e) 0 0 }
 {
     first_head(e.head)?;
     body_shape(e.body)?;
@@ -67,7 +68,7 @@ fn inception_shape(e: Event) -> Result<(), Refusal>
 }
 
 fn rotation_shape(e: Event) -> Result<(), Refusal>
-    ensures { fault_of result ≡ shape_as Rotation e }
+    ensures { answered result ≡ refused (shape_as Rotation e) 0 0 }
 {
     later_head(e.head)?;
     body_shape(e.body)?;
@@ -76,14 +77,14 @@ fn rotation_shape(e: Event) -> Result<(), Refusal>
 }
 
 fn interaction_shape(e: Event) -> Result<(), Refusal>
-    ensures { fault_of result ≡ shape_as Interaction e }
+    ensures { answered result ≡ refused (shape_as Interaction e) 0 0 }
 {
     later_head(e.head)?;
     signed_shape(e)
 }
 
 pub fn of_event(e: Event) -> Result<(), Refusal>
-    ensures { fault_of result ≡ event_shape e }
+    ensures { answered result ≡ refused (event_shape e) 0 0 }
 {
     match e.ilk {
         Ilk::Inception => inception_shape(e),
@@ -95,7 +96,7 @@ pub fn of_event(e: Event) -> Result<(), Refusal>
 
 // "latest type (0 IC, 1 RO, 2 IX)"
 fn latest_shape(latest: u8) -> Result<(), Refusal>
-    ensures { fault_of result ≡ latest_shape latest }
+    ensures { answered result ≡ refused (latest_shape latest) 0 0 }
 {
     if latest <= 2 {
         Ok(())
@@ -105,7 +106,7 @@ fn latest_shape(latest: u8) -> Result<(), Refusal>
 }
 
 fn state_head(s: KeyState) -> Result<(), Refusal>
-    ensures { fault_of result ≡ state_head s }
+    ensures { answered result ≡ refused (state_head s) 0 0 }
 {
     item::shape(s.prefix, Kind::Prefix)?;
     item::shape(s.said, Kind::Said)?;
@@ -113,7 +114,7 @@ fn state_head(s: KeyState) -> Result<(), Refusal>
 }
 
 fn state_tail(s: KeyState) -> Result<(), Refusal>
-    ensures { fault_of result ≡ state_tail s }
+    ensures { answered result ≡ refused (state_tail s) 0 0 }
 {
     items::shape(s.witnessing.witnesses, Kind::Key)?;
     config::shape(s.config)?;
@@ -121,7 +122,7 @@ fn state_tail(s: KeyState) -> Result<(), Refusal>
 }
 
 pub fn of_state(s: KeyState) -> Result<(), Refusal>
-    ensures { fault_of result ≡ state_shape s }
+    ensures { answered result ≡ refused (state_shape s) 0 0 }
 {
     state_head(s)?;
     own_shape(s.authority)?;
@@ -130,7 +131,7 @@ pub fn of_state(s: KeyState) -> Result<(), Refusal>
 }
 
 pub fn of_holder(h: Holder) -> Result<(), Refusal>
-    ensures { fault_of result ≡ holder_shape h }
+    ensures { answered result ≡ refused (holder_shape h) 0 0 }
 {
     if h.held { of_state(h.state) } else { Ok(()) }
 }

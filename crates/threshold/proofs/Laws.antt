@@ -5,7 +5,6 @@
 --     sum_next, sum_end    the sum of a clause, place by place
 --     reached, not_reached, all_reached   clause after clause
 --     met_is, .._is, .._zero   the library's words for a test of a result, a sum, and a test along a list
---     no_details, shape_stops   a refusal of a bad shape names no details
 use mathlib.Core.Path.{◌≡◌, refl, sym}
 use mathlib.Core.List.{List, ◌∷◌, []}
 use mathlib.Core.Bool.{Bool, true, false}
@@ -143,68 +142,3 @@ any_zero xs = any_is (λ x. eqb x 0) (eqb 0) zero_is xs
 
 pub all_weights : (ws : List Weight) → list_all zero_weight ws ≡ all zero_weight ws
 all_weights ws = all_is zero_weight zero_weight (λ w. refl) ws
-
--- ---- 3 and 4 name no details
-pub no_details : (r : Refusal) → (answer_of r).number < 10 → answer_of r ≡ refused (answer_of r).number 0 0
-no_details Truncated h = refl
-no_details UnknownMark h = refl
-no_details BadField h = refl
-no_details TooMany h = refl
-no_details StateHeld h = refl
-no_details EvidenceRequired h = refl
-no_details DelegatorUnknown h = refl
-no_details NotInception h = refl
-no_details DuplicateInception h = refl
-no_details NonTransferableState h = absurd (omega (arith, h))
-no_details (NonZeroGenesisSn sn) h = absurd (omega (arith, h))
-no_details (BasicKeyCount keys) h = absurd (omega (arith, h))
-no_details BasicThreshold h = absurd (omega (arith, h))
-no_details BasicKeyMismatch h = absurd (omega (arith, h))
-no_details NonTransferableNextKeys h = absurd (omega (arith, h))
-no_details NonTransferableWitnesses h = absurd (omega (arith, h))
-no_details NonTransferableAnchors h = absurd (omega (arith, h))
-no_details (Duplicate list) h = absurd (omega (arith, h))
-no_details (TransferableWitness list) h = absurd (omega (arith, h))
-no_details CutAddOverlap h = absurd (omega (arith, h))
-no_details RemovalNotCurrent h = absurd (omega (arith, h))
-no_details AdditionAlreadyPresent h = absurd (omega (arith, h))
-no_details BelowMinimum h = absurd (omega (arith, h))
-no_details (ExceedsKeyCount required keys) h = absurd (omega (arith, h))
-no_details EmptyClauseList h = absurd (omega (arith, h))
-no_details EmptyClause h = absurd (omega (arith, h))
-no_details (MissingSignatures few) h = absurd (omega (arith, h))
-no_details (PriorNextThresholdUnsatisfied few) h = absurd (omega (arith, h))
-no_details NonTransferableCommitsNextKeys h = absurd (omega (arith, h))
-no_details (WitnessThresholdZeroWithWitnesses witnesses) h = absurd (omega (arith, h))
-no_details (WitnessThresholdExceeded toad witnesses) h = absurd (omega (arith, h))
-no_details (InsufficientWitnessReceipts valid required) h = absurd (omega (arith, h))
-no_details IdentifierMismatch h = absurd (omega (arith, h))
-no_details SequenceNumberOverflow h = absurd (omega (arith, h))
-no_details (OutOfOrder expected actual) h = absurd (omega (arith, h))
-no_details PriorDigestMismatch h = absurd (omega (arith, h))
-no_details InteractionOnEstablishmentOnly h = absurd (omega (arith, h))
-no_details (TooManyWitnesses count) h = absurd (omega (arith, h))
-no_details (Overflow witnesses) h = absurd (omega (arith, h))
-no_details (OutOfRange toad witnesses) h = absurd (omega (arith, h))
-no_details (NoRoom needed) h = absurd (omega (arith, h))
-
-few : (b : Bool) (x y : ℕ) → x < 10 → y < 10 → pick b x y < 10
-few true x y h g = h
-few false x y h g = g
-
-shapes : (a b c d e : Bool) → pick a (pick b 0 3) (pick c (pick d (pick e 0 3) 4) 3) < 10
-shapes a b c d e =
-    let three : (b : Bool) → pick b 0 3 < 10 = λ b. few b 0 3 (omega arith) (omega arith) in
-    few a (pick b 0 3) (pick c (pick d (pick e 0 3) 4) 3) (three b) (few c (pick d (pick e 0 3) 4) 3 (few d (pick e 0 3) 4 (three e) (omega arith)) (omega arith))
-
-shape_few : (t : Threshold) → shape_of t < 10
-unfolding shape_of
-shape_few t =
-    shapes (is_simple t) (both (eqb t.clauses 0) (rest_zero t 0 0)) (eqb t.tag 1) (both (leb t.clauses 16) (leb (weights_in t) 16))
-    (both (eqb t.simple 0) (rest_zero t t.clauses (weights_in t)))
-
-pub shape_stops : (t : Threshold) (keys : ℕ) (r : Refusal) → (answer_of r).number ≡ shape_of t → answer_of r ≡ check_well_formed t keys
-unfolding check_well_formed
-shape_stops t keys r e =
-    let n : (answer_of r).number < 10 = rw e (shape_few t) in
-    rw (← e, ← no_details r n) (sym (stopped (answer_of r) (well_formed t keys ∷ []) (eqb-false _ 0 (refuses r))))

@@ -3,7 +3,8 @@
 
 ghost use Rattle.std.specs.Prelude.{◌≡◌, ◌+◌, ◌≤◌, eqb, length, take, drop};
 ghost use Rattle.lists.specs.Lists.{pick, both, any};
-ghost use Rattle.answer.specs.Refusal.{answered, fault_of};
+ghost use Rattle.answer.specs.Answer.{refused};
+ghost use Rattle.answer.specs.Refusal.{answered};
 ghost use Rattle.places.specs.Places.{bit_at};
 ghost use Rattle.weight.specs.Weight.{zero_weight, no_sum};
 ghost use Rattle.threshold.specs.Threshold.{sum, rest_zero, shape_of, at_most, simple_form, well_formed, check_well_formed, sum_from, runs, clauses_met, first_short, judged};
@@ -44,7 +45,7 @@ pub fn weights_in(sizes: [u8; 16], n: usize) -> usize
 
 // 3 where a place that is not used is not zero: a number, or what stands from the clause s and the weight w on.
 fn unused(t: Threshold, number: u64, s: usize, w: usize) -> Result<(), Refusal>
-    ensures { fault_of result ≡ pick (both (eqb number 0) (rest_zero t s w)) 0 3 }
+    ensures { answered result ≡ refused (pick (both (eqb number 0) (rest_zero t s w)) 0 3) 0 0 }
 {
     let sizes_zero = t.sizes.iter().skip(s).all(|size| *size == 0);
     let weights_zero = t.weights.iter().skip(w).all(|w| weight::is_zero(*w));
@@ -57,7 +58,7 @@ fn unused(t: Threshold, number: u64, s: usize, w: usize) -> Result<(), Refusal>
 
 #[tactic(auto, unfolding(crate::specs::Threshold::shape_of))]
 pub fn shape(t: Threshold) -> Result<(), Refusal>
-    ensures { fault_of result ≡ shape_of t }
+    ensures { answered result ≡ refused (shape_of t) 0 0 }
 {
     match t.tag {
         0 => unused(t, t.clauses as u64, 0, 0),

@@ -4,7 +4,8 @@
 ghost use Rattle.std.specs.Prelude.{◌≡◌};
 ghost use Rattle.std.specs.List.{list_all};
 ghost use Rattle.lists.specs.Lists.{both};
-ghost use Rattle.answer.specs.Refusal.{fault_of};
+ghost use Rattle.answer.specs.Answer.{refused};
+ghost use Rattle.answer.specs.Refusal.{answered};
 ghost use Rattle.firsts.specs.Firsts.{has_first};
 ghost use Rattle.verification.specs.Verification.{signatures, same_wire, place_within, key_place, commitment_place};
 ghost use Rattle.verification.specs.Verification.{exposed_with, counted_with, counted_of, claimed, claim_of, no_siger, ondex_fits, zero_siger, shape_of};
@@ -203,7 +204,7 @@ fn all_zero(unused: &[Siger]) -> bool
 // `TooMany` where the count is above 48, `BadField` where an ondex does not fit its flag or an unused place is not zero.
 #[tactic(auto, using(crate::proofs::Laws::list_all_is, std::proofs::lemmas::List::take_rest), unfolding(crate::specs::Verification::shape_of))]
 pub fn shape(l: Sigers) -> Result<(), Refusal>
-    ensures { fault_of result ≡ shape_of l }
+    ensures { answered result ≡ refused (shape_of l) 0 0 }
 {
     if 48 < l.count {
         return Err(Refusal::TooMany);
