@@ -10,39 +10,38 @@ use lib.ListN.{length}
 use borrow.Author.Tests.{le-leb, leb-true, eqb-true}
 use Rattle.lists.specs.Lists.{pick, both, any, filter}
 use Rattle.lists.proofs.Facts.{both_true}
-use Rattle.number.specs.declared.Number.{Number}
 use Rattle.answer.specs.declared.Answer.{Answer}
+use Rattle.answer.specs.declared.Refusal.{Refusal}
+use Rattle.answer.specs.Refusal.{answer_of}
 use Rattle.answer.specs.Answer.{accepted, first_refusal}
 use Rattle.answer.proofs.Laws.{clean_first, last, grouped, tail_same}
+use Rattle.answer.proofs.Results.{refuses}
 use Rattle.item.specs.declared.Item.{Item}
 use Rattle.items.specs.declared.Items.{Items}
 use Rattle.items.specs.Items.{listed, packed}
 use Rattle.items.proofs.Laws.{listed-packed}
 use Rattle.toad.specs.Toad.{witness_threshold}
-use Rattle.member_set.specs.declared.Change.{Change}
 use Rattle.member_set.specs.Members.{repeat_from, absent, witness_faults, change_faults, joined, updated, change_of}
 use Rattle.verification.specs.Verification.{signatures, packed_sigers}
-use Rattle.event.specs.declared.Head.{Head}
 use Rattle.event.specs.declared.Ilk.TheVariants.{Inception, Rotation, Interaction}
 use Rattle.evidence.specs.declared.Evidence.{Evidence}
 use Rattle.evidence.specs.Evidence.{evidence_of, signed_on, receipted_on}
-use Rattle.rules.specs.Rules.{chains_onto, of_prefix, may_interact, interaction, rewitness, rotation}
-use Rattle.rules.proofs.Laws.{clean_receipts, change_stops, no_toad, no-receipts, rewitnesses}
+use Rattle.rules.specs.Rules.{of_prefix, interaction, rewitness, rotation, witness_stages, changed, new_witnesses}
 use Rattle.reserved.proofs.Laws.{incepts}
 use Rattle.ingest.specs.Judgement.{incepted, rotates, interacts}
 use Rattle.ingest.proofs.Laws.{incept_lists, rotate_lists, interact_lists}
 use Rattle.cursor.specs.Spans.{list_of, many_of}
 use Rattle.cursor.proofs.Laws.{list_length}
-use Rattle.field.specs.Field.{item_of, items_of, config_of}
+use Rattle.field.specs.Field.{item_of, items_of}
 use Rattle.wire.specs.Wire.{sigers_of}
-use Rattle.parts.specs.declared.Listing.{Listing}
+use Rattle.cursor.specs.declared.Listing.{Listing}
 use Rattle.parts.specs.Parts.{head_of, body_of}
 use Rattle.record.specs.declared.TailMarks.{TailMarks}
 use Rattle.record.specs.declared.EventMarks.{EventMarks}
 use Rattle.record.specs.declared.StateMarks.{StateMarks}
 use Rattle.record.specs.Marks.{state_of, event_of}
 use Rattle.record.proofs.Laws.{evidence_as}
-use Rattle.judge.specs.Parts.{list_at, threshold_at, evidence_at, start_at, keys_at, witnesses_at, chains_at, opening_at, rewitness_at, changed_at}
+use Rattle.judge.specs.Parts.{list_at, threshold_at, evidence_at, start_at, keys_at, witnesses_at, opening_at, moving_at, standing_at, rewitness_at, changed_at}
 
 -- ---- what is not looked at
 none_of : (s : List ℕ) (p : ℕ) → many_of (item_of s) 33 16 s 0 p ≡ []
@@ -61,18 +60,8 @@ no_faults : accepted ≡ witness_faults 1 []
 unfolding witness_faults first_refusal repeat_from any
 no_faults = refl
 
-pub no-witnesses : (s : List ℕ) (n p : ℕ) → n ≡ 0 → accepted ≡ witness_faults 1 (listed (items_of s n p))
-no-witnesses s n p z = rw (nothing_at s n p z) no_faults
-
--- ---- the same checks of the same parts
-pub chain_same : (p p' : Item) (sn : Number) (d d' : Item) (h h' : Head) → p ≡ p' → d ≡ d' → h ≡ h' → chains_onto p sn d h ≡ chains_onto p' sn d' h'
-chain_same p p' sn d d' h h' ep ed eh = rw (ep, ed, eh)
-
--- a check and two groups of checks
-pub then_groups : (x : Answer) (ys zs : List Answer) → first_refusal (x ∷ first_refusal ys ∷ first_refusal zs ∷ []) ≡ first_refusal (x ∷ (ys ++ zs))
-then_groups x ys zs =
-    tail_same (x ∷ []) (first_refusal ys ∷ first_refusal zs ∷ []) (ys ++ zs)
-    (grouped ys (first_refusal zs ∷ []) ∙ tail_same ys (first_refusal zs ∷ []) zs (sym (last (first_refusal zs) (first_refusal zs) (clean_first zs) refl)))
+pub no_witnesses : (s : List ℕ) (n p : ℕ) → n ≡ 0 → accepted ≡ witness_faults 1 (listed (items_of s n p))
+no_witnesses s n p z = rw (nothing_at s n p z) no_faults
 
 -- ---- signatures where they stand
 gathered : (s : List ℕ) (t : TailMarks) (keys next keys' next' : ℕ) (v : Evidence) → v ≡ evidence_at s t keys next → keys ≡ keys' → next ≡ next'
@@ -82,55 +71,84 @@ gathered s t keys next keys' next' v e k n =
     ∙ ap₂ (λ (x y : ℕ). evidence_at s t x y) k n
     ∙ evidence_as keys' next' (sigers_of s t.sigs.count t.sigs.first) (sigers_of s t.receipts.count t.receipts.first)
 
--- ---- an inception
-module _ (s : List ℕ) (m : EventMarks) (prefix : Item) (keys next witnesses : ℕ) (v : Evidence)
+-- ---- checks in a row: the first refusal is theirs, and behind one that passed the others are
+stops : (r : Refusal) (x : Answer) (xs : List Answer) → answer_of r ≡ x → answer_of r ≡ first_refusal (x ∷ xs)
+unfolding first_refusal
+stops r x xs e = rw (← e, refuses r)
+
+goes_on : (x : Answer) (xs : List Answer) → accepted ≡ x → first_refusal (x ∷ xs) ≡ first_refusal xs
+unfolding first_refusal
+goes_on x xs e = rw (← e)
+
+-- ---- an inception from its groups of checks
+module _ (s : List ℕ) (m : EventMarks) (prefix : Item) (next witnesses : ℕ)
     (ep : prefix ≡ item_of s m.head.prefix)
-    (ek : keys ≡ (list_at s m.body.signers.authority.items).count)
     (en : next ≡ (list_at s m.body.signers.commitment.items).count)
-    (ew : witnesses ≡ (list_at s m.body.additions).count)
-    (ev : v ≡ evidence_at s m.tail keys 0) where
-  pub inception_at_lem : first_refusal (
-      first_refusal (start_at s m.head m.body prefix next witnesses m.tail.anchors)
-      ∷ first_refusal (keys_at s m.body.signers keys next v)
-      ∷ first_refusal (witnesses_at m.body.toad witnesses v)
-      ∷ []) ≡ of_prefix (item_of s m.head.prefix) (incepted (event_of Inception s m))
-  inception_at_lem =
+    (ew : witnesses ≡ (list_at s m.body.additions).count) where
+  abbrev start : List Answer
+  start = start_at s m.head m.body prefix next witnesses m.tail.anchors
+
+  abbrev begins : Answer
+  begins = of_prefix (item_of s m.head.prefix) (incepted (event_of Inception s m))
+
+  inception_at_lem : (keys : ℕ) (v : Evidence) → keys ≡ (list_at s m.body.signers.authority.items).count → v ≡ evidence_at s m.tail keys 0
+      → first_refusal (first_refusal start ∷ first_refusal (keys_at s m.body.signers keys next v) ∷ first_refusal (witnesses_at m.body.toad witnesses v) ∷ []) ≡ begins
+  inception_at_lem keys v ek ev =
       rw (ep, ek, en, ew)
       (incepts (head_of s m.head) (body_of s m.body) m.tail.anchors (signed_on (threshold_at s m.body.signers.authority) v) (receipted_on m.body.toad v)
       ∙ ap (of_prefix (item_of s m.head.prefix)) (incept_lists (event_of Inception s m) v (gathered s m.tail keys 0 _ 0 v ev ek refl)))
 
--- ---- an interaction
-module _ (st : List ℕ) (sm : StateMarks) (s : List ℕ) (m : EventMarks) (keys witnesses : ℕ) (v : Evidence)
-    (ek : keys ≡ (list_at st sm.body.signers.authority.items).count)
-    (ew : witnesses ≡ (list_at st sm.body.additions).count)
-    (ev : v ≡ evidence_at s m.tail keys 0) where
-  pub interaction_at_lem : first_refusal (
-      may_interact (config_of st sm.body.config.count sm.body.config.first)
-      ∷ chains_at st sm.head s m.head
-      ∷ signed_on (threshold_at st sm.body.signers.authority) v
-      ∷ receipted_on sm.body.toad v witnesses
-      ∷ []) ≡ interacts (state_of st sm) (event_of Interaction s m)
+  pub start_stops : (r : Refusal) → answer_of r ≡ first_refusal start → answer_of r ≡ begins
+  start_stops r e = stops r _ _ e ∙ inception_at_lem _ _ refl refl
+
+  module _ (keys : ℕ) (v : Evidence) (began : accepted ≡ first_refusal start)
+      (ek : keys ≡ (list_at s m.body.signers.authority.items).count) (ev : v ≡ evidence_at s m.tail keys 0) where
+    pub keys_stop : (r : Refusal) → answer_of r ≡ first_refusal (keys_at s m.body.signers keys next v) → answer_of r ≡ begins
+    keys_stop r e = stops r _ _ e ∙ sym (goes_on _ _ began) ∙ inception_at_lem keys v ek ev
+
+    pub witnesses_answer : accepted ≡ first_refusal (keys_at s m.body.signers keys next v) → (x : Answer) → x ≡ first_refusal (witnesses_at m.body.toad witnesses v) → x ≡ begins
+    witnesses_answer good x e =
+        last x _ (clean_first (witnesses_at m.body.toad witnesses v)) e ∙ sym (goes_on _ _ good) ∙ sym (goes_on _ _ began) ∙ inception_at_lem keys v ek ev
+
+-- ---- an interaction from its groups of checks
+module _ (st : List ℕ) (sm : StateMarks) (s : List ℕ) (m : EventMarks) where
+  abbrev moves : Answer
+  moves = interacts (state_of st sm) (event_of Interaction s m)
+
+  interaction_at_lem : (keys : ℕ) (v : Evidence) → keys ≡ (list_at st sm.body.signers.authority.items).count → v ≡ evidence_at s m.tail keys 0
+      → first_refusal (first_refusal (moving_at st sm s m.head) ∷ first_refusal (standing_at st sm.body v) ∷ []) ≡ moves
   unfolding interaction
-  interaction_at_lem = rw ew (interact_lists (state_of st sm) (event_of Interaction s m) v (gathered s m.tail keys 0 _ 0 v ev ek refl))
+  interaction_at_lem keys v ek ev =
+      grouped (moving_at st sm s m.head) (first_refusal (standing_at st sm.body v) ∷ [])
+      ∙ tail_same (moving_at st sm s m.head) (first_refusal (standing_at st sm.body v) ∷ []) (standing_at st sm.body v) (sym (last _ _ (clean_first (standing_at st sm.body v)) refl))
+      ∙ interact_lists (state_of st sm) (event_of Interaction s m) v (gathered s m.tail keys 0 _ 0 v ev ek refl)
+
+  pub standing_answers : (keys : ℕ) (v : Evidence) → accepted ≡ first_refusal (moving_at st sm s m.head)
+      → keys ≡ (list_at st sm.body.signers.authority.items).count → v ≡ evidence_at s m.tail keys 0
+      → (x : Answer) → x ≡ first_refusal (standing_at st sm.body v) → x ≡ moves
+  standing_answers keys v good ek ev x e =
+      last x _ (clean_first (standing_at st sm.body v)) e ∙ sym (goes_on _ _ good) ∙ interaction_at_lem keys v ek ev
 
 -- ---- a rotation
-pub change_same : (l l' c c' a a' : Items) (toad : ℕ) (v : Evidence) → l ≡ l' → c ≡ c' → a ≡ a'
-    → changed_at (listed l) (listed c) (listed a) toad v ≡ changed_at (listed l') (listed c') (listed a') toad v
-change_same l l' c c' a a' toad v el ec ea = rw (el, ec, ea)
-
 -- no cuts and no additions leave the list as it is, without a fault
-all-kept : (xs : List Item) → filter (absent []) xs ≡ xs
+all_kept : (xs : List Item) → filter (absent []) xs ≡ xs
 unfolding filter any
-all-kept [] = refl
-all-kept (x ∷ xs) = ap (λ (ys : List Item). x ∷ ys) (all-kept xs)
+all_kept [] = refl
+all_kept (x ∷ xs) = ap (λ (ys : List Item). x ∷ ys) (all_kept xs)
 
-updated-same : (xs : List Item) → updated xs [] [] ≡ xs
+updated_same : (xs : List Item) → updated xs [] [] ≡ xs
 unfolding updated joined
-updated-same xs = all-kept xs
+updated_same xs = all_kept xs
 
 no_change_faults : (xs : List Item) → accepted ≡ change_faults xs [] []
 unfolding change_faults first_refusal repeat_from any
 no_change_faults xs = refl
+
+-- what is left to check of a list that was kept
+kept_stages : (faults : Answer) (new xs : List Item) (toad : ℕ) (receipted : ℕ → Answer) → accepted ≡ faults → new ≡ xs → length xs ≤ 16
+    → first_refusal (witness_stages faults new toad receipted) ≡ first_refusal (witness_threshold toad (length xs) ∷ receipted (length xs) ∷ [])
+unfolding first_refusal change_of
+kept_stages faults new xs toad receipted clean same few = rw (← clean, same, le-leb (length xs) 16 few)
 
 few_at : (s : List ℕ) (n p : ℕ) → length (many_of (item_of s) 33 16 s n p) ≤ 16
 unfolding many_of
@@ -147,45 +165,21 @@ module _ (s : List ℕ) (n p : ℕ) where
   unfolding items_of
   packed_at = ap packed (sym (listed-packed (many_of (item_of s) 33 16 s n p)))
 
-  pub listed_few : length (listed (items_of s n p)) ≤ 16
+  listed_few : length (listed (items_of s n p)) ≤ 16
   unfolding items_of
   listed_few = rw (listed-packed (many_of (item_of s) 33 16 s n p)) (few_at s n p)
 
-  pub listed-count : (items_of s n p).count ≡ length (listed (items_of s n p))
-  listed-count = ap (λ (l : Items). l.count) packed_at
+  listed_count : (items_of s n p).count ≡ length (listed (items_of s n p))
+  listed_count = ap (λ (l : Items). l.count) packed_at
 
-module _ (xs : List Item) (few : length xs ≤ 16) (toad : ℕ) (v : Evidence) where
-  abbrev unchanged_list : Change
-  unchanged_list = record { answer = accepted; list = packed xs }
-
-  has_room : unchanged_list ≡ change_of (updated xs [] [])
-  unfolding change_of
-  has_room = rw (updated-same xs, le-leb (length xs) 16 few)
-
-  module _ (n : ℕ) (en : n ≡ length xs) (x : Answer) (ex : x ≡ witness_threshold toad n) where
-    fits : x ≡ witness_threshold toad (length xs)
-    fits = ex ∙ ap (witness_threshold toad) en
-
-    pub same_toad : (x.number ≡ 0 → ⊥) → record { answer = x; list = packed [] } ≡ changed_at xs [] [] toad v
-    same_toad ne =
-        change_stops x _ (updated xs [] [])
-        (no_toad accepted (change_faults xs [] []) (updated xs [] []) toad (receipted_on toad v) (no_change_faults xs) unchanged_list has_room refl refl x fits ne)
-        ne
-
-    module _ (zx : x.number ≡ 0) (y : Answer) (ey : y ≡ receipted_on toad v n) where
-      seen : y ≡ receipted_on toad v (length xs)
-      seen = ey ∙ ap (receipted_on toad v) en
-
-      pub same-receipts : (y.number ≡ 0 → ⊥) → record { answer = y; list = packed [] } ≡ changed_at xs [] [] toad v
-      same-receipts ne =
-          change_stops y _ (updated xs [] [])
-          (no-receipts accepted (change_faults xs [] []) (updated xs [] []) toad (receipted_on toad v) (no_change_faults xs) unchanged_list has_room refl refl x fits zx y seen ne)
-          ne
-
-      pub same_goes : y.number ≡ 0 → record { answer = y; list = packed xs } ≡ changed_at xs [] [] toad v
-      same_goes zy =
-          rewitnesses accepted (change_faults xs [] []) (updated xs [] []) toad (receipted_on toad v) (no_change_faults xs) unchanged_list has_room refl refl x fits zx y seen zy
-          (clean_receipts toad _)
+  -- so no change is 30 or 31, then 32, of that list
+  pub unchanged_at : (toad : ℕ) (v : Evidence)
+      → changed (first_refusal (witnesses_at toad (items_of s n p).count v)) (listed (items_of s n p)) ≡ changed_at (listed (items_of s n p)) [] [] toad v
+  unchanged_at toad v =
+      let xs = listed (items_of s n p) in
+      ap₂ (λ (x : Answer) (ys : List Item). changed x ys)
+      (ap (λ (k : ℕ). first_refusal (witnesses_at toad k v)) listed_count ∙ sym (kept_stages _ _ xs toad (receipted_on toad v) (no_change_faults xs) (updated_same xs) listed_few))
+      (sym (updated_same xs))
 
 pub no_change : (xs : List Item) (s : List ℕ) (cut added : Listing) (toad : ℕ) (v : Evidence) → both (eqb cut.count 0) (eqb added.count 0) ≡ true
     → changed_at xs [] [] toad v ≡ changed_at xs (listed (list_at s cut)) (listed (list_at s added)) toad v
@@ -199,13 +193,26 @@ module _ (st : List ℕ) (sm : StateMarks) (s : List ℕ) (m : EventMarks) where
   abbrev pub rewitness_in : Evidence → Answer
   rewitness_in v = rewitness_at (listed (list_at st sm.body.additions)) (listed (list_at s m.body.removals)) (listed (list_at s m.body.additions)) m.body.toad v
 
-  pub rotation_at_lem : (keys next : ℕ) (v : Evidence)
-      → keys ≡ (list_at s m.body.signers.authority.items).count
-      → next ≡ (list_at st sm.body.signers.commitment.items).count
-      → v ≡ evidence_at s m.tail keys next
-      → first_refusal (first_refusal (opening_at st sm s m keys v) ∷ rewitness_in v ∷ []) ≡ rotates (state_of st sm) (event_of Rotation s m)
-  unfolding rotation rewitness
-  rotation_at_lem keys next v ek en ev =
-      grouped (opening_at st sm s m keys v) (rewitness_in v ∷ [])
-      ∙ ap (λ (n : ℕ). first_refusal (opening_at st sm s m n v ++ (rewitness_in v ∷ []))) ek
-      ∙ rotate_lists (state_of st sm) (event_of Rotation s m) v (gathered s m.tail keys next _ _ v ev ek en)
+  abbrev turns : Answer
+  turns = rotates (state_of st sm) (event_of Rotation s m)
+
+  abbrev new : List Item
+  new = new_witnesses (state_of st sm) (body_of s m.body)
+
+  module _ (keys next : ℕ) (v : Evidence)
+      (ek : keys ≡ (list_at s m.body.signers.authority.items).count)
+      (ev : v ≡ evidence_at s m.tail keys next)
+      (en : next ≡ (list_at st sm.body.signers.commitment.items).count) where
+    rotation_at_lem : first_refusal (first_refusal (opening_at st sm s m keys v) ∷ rewitness_in v ∷ []) ≡ turns
+    unfolding rotation rewitness
+    rotation_at_lem =
+        grouped (opening_at st sm s m keys v) (rewitness_in v ∷ [])
+        ∙ ap (λ (n : ℕ). first_refusal (opening_at st sm s m n v ++ (rewitness_in v ∷ []))) ek
+        ∙ rotate_lists (state_of st sm) (event_of Rotation s m) v (gathered s m.tail keys next _ _ v ev ek en)
+
+    pub opening_stops : (r : Refusal) → answer_of r ≡ first_refusal (opening_at st sm s m keys v) → answer_of r ≡ turns
+    opening_stops r e = stops r _ _ e ∙ rotation_at_lem
+
+    pub rewitness_answers : accepted ≡ first_refusal (opening_at st sm s m keys v) → changed (rewitness_in v) new ≡ changed turns new
+    rewitness_answers e =
+        ap (λ (w : Answer). changed w new) (last (rewitness_in v) (rewitness_in v) (clean_first _) refl ∙ sym (goes_on _ _ e) ∙ rotation_at_lem)

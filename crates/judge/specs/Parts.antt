@@ -9,16 +9,15 @@ use Rattle.items.specs.Items.{listed}
 use Rattle.threshold.specs.declared.Threshold.{Threshold}
 use Rattle.threshold.specs.Threshold.{well_formed}
 use Rattle.toad.specs.Toad.{witness_threshold}
-use Rattle.member_set.specs.Members.{witness_faults, change_faults, updated}
-use Rattle.member_set.specs.declared.Change.{Change}
+use Rattle.member_set.specs.Members.{Change, witness_faults, change_faults, updated}
 use Rattle.inception.specs.Identity.{identity}
 use Rattle.evidence.specs.declared.Evidence.{Evidence}
 use Rattle.evidence.specs.Evidence.{evidence_of, signed_on, exposed_on, receipted_on}
-use Rattle.rules.specs.Rules.{chains_onto, genesis_head, next_form, next_form_of, witness_stages, changed}
-use Rattle.field.specs.Field.{item_of, items_of}
+use Rattle.rules.specs.Rules.{chains_onto, genesis_head, next_form, next_form_of, witness_stages, changed, may_interact}
+use Rattle.field.specs.Field.{item_of, items_of, config_of}
 use Rattle.threshold_field.specs.ThresholdField.{threshold_of}
 use Rattle.wire.specs.Wire.{sigers_of}
-use Rattle.parts.specs.declared.Listing.{Listing}
+use Rattle.cursor.specs.declared.Listing.{Listing}
 use Rattle.parts.specs.declared.HeadMarks.{HeadMarks}
 use Rattle.parts.specs.declared.QuorumMarks.{QuorumMarks}
 use Rattle.parts.specs.declared.SignersMarks.{SignersMarks}
@@ -90,3 +89,10 @@ rewitness_at current cuts adds toad v =
 
 abbrev pub changed_at : List Item → List Item → List Item → ℕ → Evidence → Change
 changed_at current cuts adds toad v = changed (rewitness_at current cuts adds toad v) (updated current cuts adds)
+
+-- ---- "IX: 37; 33, 34, 35, 36; 27 with the state's keys; 32 with the state's witnesses"
+abbrev pub moving_at : List ℕ → StateMarks → List ℕ → HeadMarks → List Answer
+moving_at st sm s h = may_interact (config_of st sm.body.config.count sm.body.config.first) ∷ chains_at st sm.head s h ∷ []
+
+abbrev pub standing_at : List ℕ → BodyMarks → Evidence → List Answer
+standing_at st held v = signed_on (threshold_at st held.signers.authority) v ∷ receipted_on held.toad v (list_at st held.additions).count ∷ []
