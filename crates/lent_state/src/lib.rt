@@ -18,14 +18,10 @@ pub struct Ingested {
 pub fn ingest(s: KeyState, e: Event) -> Ingested
     ensures { result ≡ ingested s e }
 {
-    let before = state::hold(s);
-    let o = ingest::offer(before, e);
-    let x = o.answer;
-    let after = o.holder;
-    let next = after.state;
+    let offered = ingest::offer(state::hold(s), e);
     Ingested {
-        answer: x,
-        state: next,
+        answer: offered.answer,
+        state: offered.holder.state,
     }
 }
 

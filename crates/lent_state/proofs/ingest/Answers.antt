@@ -9,4 +9,4 @@ use Rattle.lent_state.proofs.ingest.Goals as goal
 pub returns : goal.returns
 unfolding ingested
 returns c = let out : Offered → Ingested = λ o. record { answer = o.answer; state = o.holder.state } in
-    ap out (c.offer-o.ensures ∙ ap (λ (h : Holder). offered h c.args.e) c.hold-before.ensures)
+    ap out (c.offer-offered.ensures ∙ ap (λ (h : Holder). offered h c.args.e) c.hold.ensures)
