@@ -2,17 +2,14 @@
 --     passed, stopped      one more check, as an equation
 --     here, past           the same for a function that returns at the first check that refuses: its result is the whole answer
 --     clean                an answer that passes is `accepted`, with no details; the checks in order are
---     fault-               the shape of fields likewise
 use mathlib.Core.Path.{◌≡◌, refl, sym, ◌∙◌, ap}
 use mathlib.Core.List.{List, ◌∷◌, ◌++◌, []}
 use mathlib.Core.Bool.{Bool, true, false}
-use Prim.Native.Nat.{ℕ}
-use lib.Dec.{eqb}
-use borrow.Author.Tests.{eqb-true, eq-eqb, ne_eqb}
+use borrow.Author.Tests.{eq-eqb, ne_eqb}
 use Rattle.lists.specs.Lists.{pick}
 use Rattle.lists.proofs.Facts.{clash}
 use Rattle.answer.specs.declared.Answer.{Answer}
-use Rattle.answer.specs.Answer.{accepted, passes, refuse_if, refuse_unless, first_refusal, first_fault}
+use Rattle.answer.specs.Answer.{accepted, passes, refuse_if, refuse_unless, first_refusal}
 
 -- a check that passes leaves the answer to those behind it; one that refuses gives it
 pub passed : (x : Answer) (xs : List Answer) → x.number ≡ 0 → first_refusal (x ∷ xs) ≡ first_refusal xs
@@ -84,23 +81,6 @@ last x y clean e = by_test (passes y) refl
   where
     by_test : (t : Bool) → passes y ≡ t → x ≡ pick t accepted y
     by_test true p = e ∙ clean p
-    by_test false p = e
-
--- ---- the shape of fields
-pub fault_here : (n m : ℕ) (ms : List ℕ) → n ≡ m → (n ≡ 0 → ⊥) → n ≡ first_fault (m ∷ ms)
-unfolding first_fault
-fault_here n m ms e ne = rw (← e, ne_eqb n 0 ne)
-
-pub fault_past : (n m : ℕ) (ms : List ℕ) → n ≡ m → n ≡ 0 → first_fault (m ∷ ms) ≡ first_fault ms
-unfolding first_fault
-fault_past n m ms e z = rw (← e, eq-eqb n 0 z)
-
-pub fault_last : (n m : ℕ) → n ≡ m → n ≡ first_fault (m ∷ [])
-unfolding first_fault
-fault_last n m e = by_test (eqb m 0) refl
-  where
-    by_test : (t : Bool) → eqb m 0 ≡ t → n ≡ pick t 0 m
-    by_test true p = e ∙ eqb-true m 0 p
     by_test false p = e
 
 -- three groups of checks in a row are all their checks in a row

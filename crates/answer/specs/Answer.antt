@@ -1,7 +1,6 @@
 -- Answers. "Details a and b are 0 unless named; the first named is a." The number 0 is 'accepted'.
-use Rattle.std.specs.Prelude.{ℕ, List, [], ◌∷◌, Bool, true, false, eqb}
+use Rattle.std.specs.Prelude.{ℕ, List, [], ◌∷◌, Bool, eqb}
 use Rattle.lists.specs.Lists.{pick}
-use Rattle.number.specs.declared.Number.{Number}
 use Rattle.number.specs.Number.{small}
 use Rattle.answer.specs.declared.Answer.{Answer}
 

@@ -1,7 +1,6 @@
 -- "Where an answer is an enum, a definition gives this paper's number and values for each of the enum's cases, and the promises
 -- use this definition."
 use Rattle.std.specs.Prelude.{Result, Ok, Err, ℕ}
-use Rattle.number.specs.declared.Number.{Number}
 use Rattle.number.specs.Number.{small}
 use Rattle.answer.specs.declared.Answer.{Answer}
 use Rattle.answer.specs.declared.TooFew.{TooFew}

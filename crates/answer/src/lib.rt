@@ -7,6 +7,7 @@ ghost use Rattle.answer.specs.Refusal.{answer_of, answered};
 
 use number::Number;
 
+// What is reported, and what C gets: a number of the table.
 #[derive(Clone, Copy)]
 pub struct Answer {
     pub number: u8,

@@ -1,24 +1,18 @@
 -- Sets of places against thresholds and toads: from the bits that the code has to the lists of the definitions. Assumes nothing.
-use mathlib.Core.Path.{◌≡◌, refl, sym, ap, ◌∙◌}
-use mathlib.Core.Bool.{Bool, true, false}
-use mathlib.Core.List.{List, ◌∷◌, []}
-use Prim.Native.Nat.{ℕ, ◌<◌, ◌≤◌}
+use mathlib.Core.Path.{◌≡◌, sym, ◌∙◌}
+use mathlib.Core.List.{List}
+use Prim.Native.Nat.{ℕ}
 use native.Mathlib.Omega.{arith}
-use lib.Dec.{eqb}
-use lib.ListN.{length, length-take}
-use borrow.Author.Tests.{lt-ltb, le-leb, lt-leb, eq-eqb, ne_eqb}
-use Rattle.lists.specs.Lists.{pick}
-use Rattle.answer.specs.declared.Answer.{Answer}
-use Rattle.answer.specs.Answer.{refused, accepted, passes, first_refusal}
-use Rattle.answer.proofs.Laws.{passed, stopped, Clean, clean_unless, last}
-use Rattle.items.specs.declared.Items.{Items}
+use lib.ListN.{length}
+use borrow.Author.Tests.{lt-ltb, eq-eqb}
+use Rattle.answer.specs.Answer.{refused, accepted}
 use Rattle.items.specs.Items.{listed}
 use Rattle.places.specs.Places.{bit_at, places_in, among}
 use Rattle.places.proofs.Laws.{among-chosen, places-set}
 use Rattle.threshold.specs.declared.Threshold.{Threshold}
-use Rattle.std.specs.Prelude.{Result, Ok, Err}
+use Rattle.std.specs.Prelude.{Ok, Err}
 use Rattle.threshold.specs.declared.Short.{Short}
-use Rattle.threshold.specs.Threshold.{judged, satisfied}
+use Rattle.threshold.specs.Threshold.{judged}
 use Rattle.threshold.proofs.Laws.{judged-same}
 use Rattle.verification.specs.declared.Sigers.{Sigers}
 use Rattle.verification.specs.declared.Counted.{Counted}
@@ -26,15 +20,7 @@ use Rattle.verification.specs.Verification.{signatures, verified_at, exposed_at,
 use Rattle.authority.specs.declared.Authority.{Authority}
 use Rattle.authority.specs.declared.Commitment.{Commitment}
 use Rattle.authority.specs.declared.Witnessing.{Witnessing}
-use Rattle.authority.specs.Authority.{too_few, quorum, receipts, exposed_by, verifies, opens, witnessed}
-
--- ---- how many items a list has
-module _ (l : Items) (h : length l.at ≡ 16) where
-  pub used-some : l.count < 16 → l.count ≡ length (listed l)
-  used-some g = simp length-take (omega arith)
-
-  pub used_full : 16 ≤ l.count → 16 ≡ length (listed l)
-  used_full g = simp length-take (omega arith)
+use Rattle.authority.specs.Authority.{quorum, receipts, exposed_by, verifies, witnessed}
 
 -- ---- a judgement over bits is one over the list of their places
 module _ (which : ℕ) (t : Threshold) (set n : ℕ) (h : length t.weights ≡ 16) (e : n ≡ length (places_in set)) where
@@ -50,28 +36,10 @@ module _ (which : ℕ) (t : Threshold) (set n : ℕ) (h : length t.weights ≡ 1
   unfolding quorum
   quorum_short short m = rw (← m ∙ same-judged, e)
 
--- a quorum that passes is nothing but accepted
-pub clean_quorum : (which : ℕ) (t : Threshold) (ps : List ℕ) → passes (too_few which t ps) ≡ false → Clean (quorum which t ps)
-unfolding quorum
-clean_quorum which t ps f = clean_unless (satisfied t ps) (too_few which t ps) f
-
 -- ---- receipts
 pub receipts_none : (toad : ℕ) (ps : List ℕ) → toad ≡ 0 → accepted ≡ receipts toad ps
 unfolding receipts
 receipts_none toad ps z = rw (eq-eqb toad 0 z)
-
-module _ (toad n : ℕ) (ps : List ℕ) (e : n ≡ length ps) where
-  pub receipts-enough : toad ≤ n → accepted ≡ receipts toad ps
-  unfolding receipts
-  receipts-enough h = rw (le-leb toad (length ps) (omega arith)) (same (eqb toad 0))
-    where
-      same : (b : Bool) → accepted ≡ pick b accepted accepted
-      same true = refl
-      same false = refl
-
-  pub receipts_few : n < toad → refused 32 n toad ≡ receipts toad ps
-  unfolding receipts
-  receipts_few h = rw (ne_eqb toad 0 (λ z. omega (arith, z, h)), lt-leb toad (length ps) (omega arith), e)
 
 -- ---- the three entries: counted once, then the sets are judged
 module _ (keys next : ℕ) (l : Sigers) (c : Counted) (e : c ≡ counted_of keys next (signatures l)) where

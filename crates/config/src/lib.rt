@@ -9,6 +9,7 @@ ghost use Rattle.config.specs.Config.{traits_of, is_trait, shape_of, establishme
 
 use answer::Refusal;
 
+// An array with a count, as document 01 wants it. Traits stay bytes: `shape` answers 3 for one that is none.
 #[derive(Clone, Copy)]
 pub struct Config {
     pub count: usize,

@@ -51,6 +51,7 @@ pub fn read_u8(s: &[u8], at: usize) -> Option<(u8, usize)>
     Some((*b, at + 1))
 }
 
+// One function a type: each is its type's own `from_be_bytes`, and its clause its own number of bytes.
 pub fn read_u16(s: &[u8], at: usize) -> Option<(u16, usize)>
     ensures { had result ≡ num_at 2 s.now at }
 {

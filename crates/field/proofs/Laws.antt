@@ -49,14 +49,6 @@ first_of n s at part e = ap (λ (x : List ℕ). get_or x 0 0) e ∙ (heads (drop
     heads (x ∷ xs) = refl
 
 module _ (s : List ℕ) (at : ℕ) where
-  pub trait_short : byte_at s at ≡ bad 3 → trait_place_at s at ≡ bad 3
-  unfolding trait_place_at
-  trait_short e = rw e
-
-  pub trait_is : (t n : ℕ) (b : Bool) → byte_at s at ≡ got t n → is_trait t ≡ b → trait_place_at s at ≡ classed b at n
-  unfolding trait_place_at
-  trait_is t n b e f = rw e (ap (λ (x : Bool). classed x at n) f)
-
   -- the item at a place, with its bytes there and without
   pub item_is : (r : List ℕ) → r ≡ raw_of 32 s (at + 1) → ◌≡◌ {A = Item} (record { code = get_or s at 0; raw = r }) (item_of s at)
   unfolding item_of

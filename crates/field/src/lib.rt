@@ -17,7 +17,7 @@ use item::{Item, Kind};
 use items::Items;
 use number::Number;
 
-// What a list is made of.
+// What a list is made of. No closure: the clause of `scan_list` names the reading of each case.
 #[derive(Clone, Copy)]
 enum Entry {
     Item(Kind),

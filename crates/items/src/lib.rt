@@ -11,6 +11,7 @@ ghost use Rattle.items.specs.Items.{listed, packed, shape_of};
 use answer::Refusal;
 use item::{Item, Kind};
 
+// An array with a count, as document 01 wants it: no heap, and every count has to be answered.
 #[derive(Clone, Copy)]
 pub struct Items {
     pub count: usize,

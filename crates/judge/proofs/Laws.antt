@@ -15,7 +15,7 @@ use Rattle.answer.specs.declared.Refusal.{Refusal}
 use Rattle.answer.specs.Refusal.{answer_of}
 use Rattle.answer.specs.Answer.{accepted, first_refusal}
 use Rattle.answer.proofs.Laws.{clean_first, last, grouped, tail_same}
-use Rattle.answer.proofs.Results.{refuses}
+use Rattle.answer.proofs.Results.{stops, goes_on}
 use Rattle.item.specs.declared.Item.{Item}
 use Rattle.items.specs.declared.Items.{Items}
 use Rattle.items.specs.Items.{listed, packed}
@@ -70,15 +70,6 @@ gathered s t keys next keys' next' v e k n =
     e
     ∙ ap₂ (λ (x y : ℕ). evidence_at s t x y) k n
     ∙ evidence_as keys' next' (sigers_of s t.sigs.count t.sigs.first) (sigers_of s t.receipts.count t.receipts.first)
-
--- ---- checks in a row: the first refusal is theirs, and behind one that passed the others are
-stops : (r : Refusal) (x : Answer) (xs : List Answer) → answer_of r ≡ x → answer_of r ≡ first_refusal (x ∷ xs)
-unfolding first_refusal
-stops r x xs e = rw (← e, refuses r)
-
-goes_on : (x : Answer) (xs : List Answer) → accepted ≡ x → first_refusal (x ∷ xs) ≡ first_refusal xs
-unfolding first_refusal
-goes_on x xs e = rw (← e)
 
 -- ---- an inception from its groups of checks
 module _ (s : List ℕ) (m : EventMarks) (prefix : Item) (next witnesses : ℕ)

@@ -1,6 +1,6 @@
 -- What is left of a list, place by place: the laws that a loop cites, over any element and any property. Assumes nothing.
---     head_of, head_at     the element at a place stands first in what is left: of a whole list, of an array's used part
---     any-, all-, first-, filter-   what one more place does to what is left; `-end`: nothing is left
+--     head_of              the element at a place stands first in what is left
+--     any-, first-         what one more place does to what is left; `-end`: nothing is left
 --     same-                the same along two lists of numbers
 use mathlib.Core.Path.{◌≡◌, refl}
 use mathlib.Core.List.{List, [], ◌∷◌}
@@ -8,11 +8,11 @@ use mathlib.Core.Bool.{Bool, true, false, ◌&&◌}
 use Prim.Native.Nat.{ℕ, zero, suc, ◌<◌, ◌≤◌, ◌+◌}
 use native.Mathlib.Numerals.{add-one}
 use native.Mathlib.Omega.{arith}
-use lib.ListN.{length, drop, take, get_or, length-take, drop_of_length-le}
-use lib.Seq.{drop-cons, get_or-take}
+use lib.ListN.{length, drop, get_or, drop_of_length-le}
+use lib.Seq.{drop-cons}
 use lib.Dec.{eqb}
-use borrow.Author.Tests.{eq-eqb, ne_eqb}
-use Rattle.lists.specs.Lists.{both, any, all, filter, first_from, same_numbers}
+use borrow.Author.Tests.{ne_eqb}
+use Rattle.lists.specs.Lists.{both, any, first_from, same_numbers}
 use Rattle.std.specs.Prelude.{Some, None}
 
 -- an element that is there is the same under any default
@@ -24,19 +24,6 @@ any_default d e (x ∷ xs) (suc i) h = any_default d e xs i (omega arith)
 pub head_of : {A : Type 0} (d : A) (xs : List A) (i : ℕ) → i < length xs → drop i xs ≡ get_or xs i d ∷ drop (i + 1) xs
 head_of d xs i h = rw (add-one i, drop-cons xs i d h)
 
-pub head_at : {A : Type 0} (d : A) (places : List A) (n i : ℕ) → i < n → i < length places
-    → drop i (take n places) ≡ get_or places i d ∷ drop (i + 1) (take n places)
-head_at d places n i hn hi =
-    let h : i < length (take n places) = simp length-take (omega arith) in
-    rw (add-one i, drop-cons (take n places) i d h, get_or-take n places i d hn)
-
--- no place of the used part is left at its count, nor at the array's end
-pub used-end : {A : Type 0} (places : List A) (n i : ℕ) → n ≤ i → length (take n places) ≤ i
-used-end places n i h = simp length-take (omega arith)
-
-pub array_end : {A : Type 0} (places : List A) (n i : ℕ) → length places ≤ i → length (take n places) ≤ i
-array_end places n i h = simp length-take (omega arith)
-
 module _ {A : Type 0} (f : A → Bool) (xs : List A) (x : A) (i : ℕ) (e : drop i xs ≡ x ∷ drop (i + 1) xs) where
   pub any_here : f x ≡ true → any f (drop i xs) ≡ true
   unfolding any
@@ -46,14 +33,6 @@ module _ {A : Type 0} (f : A → Bool) (xs : List A) (x : A) (i : ℕ) (e : drop
   unfolding any
   any_next h = rw (e, h)
 
-  pub all_stop : f x ≡ false → all f (drop i xs) ≡ false
-  unfolding all
-  all_stop h = rw (e, h)
-
-  pub all-next : f x ≡ true → all f (drop i xs) ≡ all f (drop (i + 1) xs)
-  unfolding all
-  all-next h = rw (e, h)
-
   pub first_here : f x ≡ true → first_from f i (drop i xs) ≡ Some i
   unfolding first_from
   first_here h = rw (e, h)
@@ -62,36 +41,16 @@ module _ {A : Type 0} (f : A → Bool) (xs : List A) (x : A) (i : ℕ) (e : drop
   unfolding first_from
   first_next h = rw (e, h)
 
-  pub filter_in : f x ≡ true → filter f (drop i xs) ≡ x ∷ filter f (drop (i + 1) xs)
-  unfolding filter
-  filter_in h = rw (e, h)
-
-  pub filter_out : f x ≡ false → filter f (drop i xs) ≡ filter f (drop (i + 1) xs)
-  unfolding filter
-  filter_out h = rw (e, h)
-
 module _ {A : Type 0} (f : A → Bool) (xs : List A) (i : ℕ) (h : length xs ≤ i) where
   pub any-end : any f (drop i xs) ≡ false
   unfolding any
   any-end = rw (drop_of_length-le xs h)
 
-  pub all_end : all f (drop i xs) ≡ true
-  unfolding all
-  all_end = rw (drop_of_length-le xs h)
-
   pub first-end : first_from f i (drop i xs) ≡ None
   unfolding first_from
   first-end = rw (drop_of_length-le xs h)
 
-  pub filter-end : filter f (drop i xs) ≡ []
-  unfolding filter
-  filter-end = rw (drop_of_length-le xs h)
-
 module _ (a b : List ℕ) (i : ℕ) (ha : i < length a) (hb : i < length b) where
-  pub same_next : get_or a i 0 ≡ get_or b i 0 → same_numbers (drop i a) (drop i b) ≡ same_numbers (drop (i + 1) a) (drop (i + 1) b)
-  unfolding same_numbers
-  same_next e = rw (head_of 0 a i ha, head_of 0 b i hb) (rw (eq-eqb _ _ e))
-
   pub same_stop : (get_or a i 0 ≡ get_or b i 0 → ⊥) → same_numbers (drop i a) (drop i b) ≡ false
   unfolding same_numbers
   same_stop e = rw (head_of 0 a i ha, head_of 0 b i hb) (rw (ne_eqb _ _ e))

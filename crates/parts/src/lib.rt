@@ -188,6 +188,7 @@ pub fn copy_head(s: &[u8], m: HeadMarks) -> Head
     }
 }
 
+// Twice, since the two structs name their items differently: keys, and next digests.
 fn copy_authority(s: &[u8], m: QuorumMarks) -> Authority
     ensures { result ≡ authority_of s.now m }
 {

@@ -4,51 +4,20 @@ use mathlib.Core.Bool.{Bool, true, false}
 use mathlib.Core.List.{List, ◌∷◌, []}
 use Prim.Native.Nat.{ℕ}
 use native.Mathlib.Omega.{arith}
-use lib.Dec.{eqb, leb}
+use lib.Dec.{leb}
 use lib.ListN.{length}
 use Rattle.lists.specs.Lists.{pick}
-use Rattle.lists.proofs.Facts.{clash}
-use Rattle.number.specs.declared.Number.{Number}
-use Rattle.number.specs.Number.{small, same_number}
 use Rattle.answer.specs.declared.Answer.{Answer}
 use Rattle.answer.specs.declared.Refusal.{Refusal}
 use Rattle.answer.specs.Refusal.{answer_of}
 use Rattle.answer.proofs.Results.{refuses}
 use Rattle.answer.specs.Answer.{refused, accepted, first_refusal}
-use Rattle.answer.proofs.Laws.{Clean, clean_first, clean_unless}
 use Rattle.item.specs.declared.Item.{Item}
 use Rattle.items.specs.declared.Items.{Items}
 use Rattle.items.specs.Items.{packed}
-use Rattle.threshold.specs.declared.Threshold.{Threshold}
-use Rattle.threshold.specs.Threshold.{well_formed}
-use Rattle.threshold.proofs.Laws.{clean_form}
-use Rattle.authority.specs.Authority.{receipts}
-use Rattle.member_set.specs.Members.{Change, witness_faults, change_of}
+use Rattle.member_set.specs.Members.{Change, change_of}
 use Rattle.toad.specs.Toad.{witness_threshold}
-use Rattle.rules.specs.Rules.{genesis_sn, next_form_of, witness_stages, changed}
-
-pub clean_sn : (sn : Number) → Clean (genesis_sn sn)
-clean_sn sn = clean_unless (same_number sn (small 0)) _ refl
-
-pub clean_witnesses : (list : ℕ) (xs : List Item) → Clean (witness_faults list xs)
-unfolding witness_faults
-clean_witnesses list xs = clean_first _
-
-pub clean_next : (next : ℕ) (t : Threshold) → Clean (next_form_of next (well_formed t next))
-clean_next next t = by_test (eqb next 0)
-  where
-    by_test : (b : Bool) → Clean (pick b accepted (well_formed t next))
-    by_test true p = refl
-    by_test false p = clean_form t next p
-
-pub clean_receipts : (toad : ℕ) (ps : List ℕ) → Clean (receipts toad ps)
-unfolding receipts
-clean_receipts toad ps = by_test (eqb toad 0) (leb toad (length ps))
-  where
-    by_test : (a b : Bool) → Clean (pick a accepted (pick b accepted (refused 32 (length ps) toad)))
-    by_test true b p = refl
-    by_test false true p = refl
-    by_test false false p = clash (sym p)
+use Rattle.rules.specs.Rules.{witness_stages, changed}
 
 -- ---- a change
 -- the new list where there is room for it

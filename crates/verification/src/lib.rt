@@ -54,6 +54,7 @@ impl From<Siger> for Claim {
     }
 }
 
+// An array with a count, as document 01 wants it: no heap, and every count has to be answered.
 #[derive(Clone, Copy)]
 pub struct Sigers {
     pub count: usize,
