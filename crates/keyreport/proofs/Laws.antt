@@ -25,9 +25,9 @@ told_in t mark x at out r e h =
     let f : r.at ≡ (written (line_of t mark x) at out).0 = ap (λ (y : Told). y.at) e in
     rw f (written_in (line_of t mark x) at out (line_few (one_more t.offered) mark x) h)
 
-pub end_in_lem : (t : Tally) (h : Holder) (at : ℕ) (out : List ℕ) (p : ℕ) → p ≡ (written (last_line t h) at out).0 → at + longest ≤ length out → p ≤ length out
+pub end_in : (t : Tally) (h : Holder) (at : ℕ) (out : List ℕ) (p : ℕ) → p ≡ (written (last_line t h) at out).0 → at + longest ≤ length out → p ≤ length out
 unfolding last_line
-end_in_lem t h at out p e k = rw e (written_in (last_line t h) at out (end_few t.accepted t.offered (is_held h) h.state.sn) k)
+end_in t h at out p e k = rw e (written_in (last_line t h) at out (end_few t.accepted t.offered (is_held h) h.state.sn) k)
 
 -- ---- and stands behind what stood there
 written_behind : (xs : List ℕ) (at : ℕ) (out : List ℕ) → at + longest ≤ length out → take (written xs at out).0 (written xs at out).1 ≡ take at out ++ xs

@@ -64,6 +64,7 @@ fn mark_at(window: &[u8], place: Place) -> u16
 }
 
 // A record of the window is offered to the state.
+#[tactic(auto, using(crate::proofs::Runs::body_bytes))]
 fn offer(state: &mut [u8], used: &mut usize, mark: u16, window: &[u8], place: Place) -> Answer
     requires from_bound { place.from + 4 ≤ place.to }
     requires to_in_bounds { place.to ≤ length window.now }
@@ -75,6 +76,7 @@ fn offer(state: &mut [u8], used: &mut usize, mark: u16, window: &[u8], place: Pl
     in_place::offer_body(state, used, mark, &window[place.from + 4..place.to])
 }
 
+#[tactic(auto, using(crate::proofs::Laws::prefix_length, crate::proofs::Laws::end_in, crate::proofs::Laws::end_behind))]
 fn end<W: Write>(
     output: &mut W,
     t: Tally,
@@ -91,6 +93,7 @@ fn end<W: Write>(
 }
 
 // Bytes that are no record get what no bytes get: "A one-record call on no bytes answers 1 too."
+#[tactic(auto, using(crate::proofs::Laws::told_in, crate::proofs::Runs::cut_told))]
 fn cut<W: Write>(
     output: &mut W,
     t: Tally,
