@@ -1,183 +1,154 @@
 // Direct calls: one request in compare's encoding (compare/oracle/encode.rs), one line. Its fields stand behind mark and length.
 use crate::{read, text};
-use answer::Answer;
+use answer::{Answer, Refusal};
 use authority::{Authority, Commitment, Witnessing};
-use cursor::Num8;
 use item::Kind;
 use items::Items;
-use state::Holder;
 use std::io;
 use std::io::Write;
-use threshold::{Judgement, Threshold};
-use toad::Taken;
+use threshold::{Short, Threshold};
+use toad::Toad;
 
-// What a call says: its answer, with a value behind it or not, a judgement, or yes or no. A bad request is none that compare
-// makes.
+// The marks of the requests.
+const AM: u16 = 0x414D;
+const EX: u16 = 0x4558;
+const SO: u16 = 0x534F;
+const AN: u16 = 0x414E;
+const AT: u16 = 0x4154;
+const WF: u16 = 0x5746;
+const WI: u16 = 0x5749;
+const DE: u16 = 0x4445;
+const ID: u16 = 0x4944;
+const SI: u16 = 0x5349;
+const OP: u16 = 0x4F50;
+const RE: u16 = 0x5245;
+const ME: u16 = 0x4D45;
+const SA: u16 = 0x5341;
+
+// What a call says: its answer, the number that it takes, a judgement, or yes or no. Of a bad request, one that compare never
+// makes, it says nothing.
 #[derive(Clone, Copy)]
 enum Said {
     Plain(Answer),
-    With(Answer, u32),
-    Judged(Judgement),
+    Taken(Toad),
+    Judged(Result<(), Short>),
     Yes(bool),
-    Bad,
 }
 
-// The answer to a request that was read to its end.
-fn told(s: &[u8], end: usize, x: Answer) -> Said {
-    if end == s.len() {
-        return Said::Plain(x);
-    }
-    Said::Bad
+// Nothing stands behind a request's fields.
+fn ends(s: &[u8], at: usize) -> Option<()> {
+    if at == s.len() { Some(()) } else { None }
 }
 
-fn judged(s: &[u8], end: usize, yes: bool) -> Said {
-    if end == s.len() {
-        return Said::Yes(yes);
-    }
-    Said::Bad
+fn checked(found: Result<(), Refusal>) -> Option<Said> {
+    Some(Said::Plain(answer::of(found)))
 }
 
-// A value stands behind an answer that is 0.
-fn valued(s: &[u8], end: usize, x: Answer, n: u32) -> Said {
-    if x.number != 0 || end != s.len() {
-        return told(s, end, x);
-    }
-    Said::With(x, n)
+fn taken(t: Result<Toad, Refusal>) -> Option<Said> {
+    Some(match t {
+        Ok(toad) => Said::Taken(toad),
+        Err(r) => Said::Plain(Answer::from(r)),
+    })
 }
 
-fn taken(s: &[u8], end: usize, t: Taken) -> Said {
-    let x = t.answer;
-    let toad = t.toad;
-    valued(s, end, x, toad.0)
+fn ample(s: &[u8]) -> Option<Said> {
+    let (witnesses, at) = cursor::read_u64(s, 4)?;
+    ends(s, at)?;
+    taken(toad::ample(witnesses))
 }
 
-fn ample(s: &[u8]) -> Said {
-    let n = read::wide(s, 4);
-    let t = toad::ample(n.n);
-    taken(s, n.next, t)
+fn exact(s: &[u8]) -> Option<Said> {
+    let (toad, at) = cursor::read_u32(s, 4)?;
+    let (witnesses, at) = cursor::read_u64(s, at)?;
+    ends(s, at)?;
+    taken(toad::exact(toad, witnesses))
 }
 
-fn exact(s: &[u8]) -> Said {
-    let w = read::word(s, 4);
-    let n = read::wide(s, w.next);
-    let t = toad::exact(w.n, n.n);
-    taken(s, n.next, t)
-}
-
-fn satisfied_by(sorted: bool, t: Threshold, ps: &[u32]) -> Judgement {
+fn satisfied_by(sorted: bool, t: Threshold, ps: &[u32]) -> Result<(), Short> {
     if sorted {
         return satisfied::satisfied_by_sorted_unique(t, ps);
     }
     satisfied::satisfied_by(t, ps)
 }
 
-fn satisfied(sorted: bool, s: &[u8]) -> Said {
-    let q = read::threshold(s, 4);
-    let Num8::Of(count, at) = cursor::read_u8(s, q.next) else {
-        return Said::Bad;
-    };
-    let n = count as usize;
-    let rest = read::part(s, at, s.len());
+fn satisfied(sorted: bool, s: &[u8]) -> Option<Said> {
+    let (t, at) = read::threshold(s, 4)?;
+    let (count, at) = cursor::read_u8(s, at)?;
+    let n = usize::from(count);
+    let rest = s.get(at..)?;
     if 64 < n || rest.len() != n * 4 {
-        return Said::Bad;
+        return None;
     }
-    let t = q.threshold;
     let ps = read::places(rest);
-    Said::Judged(satisfied_by(sorted, t, &ps[0..n]))
+    Some(Said::Judged(satisfied_by(sorted, t, &ps[..n])))
 }
 
-fn attainable(s: &[u8]) -> Said {
-    let q = read::threshold(s, 4);
-    let keys = read::wide(s, q.next);
-    let t = q.threshold;
-    let x = attainable::attainable(t, keys.n as usize);
-    if x.number != 0 {
-        let y = answer::refuse(x.number, 0, 0);
-        return told(s, keys.next, y);
-    }
-    judged(s, keys.next, x.yes)
+fn attainable(s: &[u8]) -> Option<Said> {
+    let (t, at) = read::threshold(s, 4)?;
+    let (keys, at) = cursor::read_u64(s, at)?;
+    ends(s, at)?;
+    Some(match attainable::attainable(t, keys as usize) {
+        Ok(yes) => Said::Yes(yes),
+        Err(r) => Said::Plain(Answer::from(r)),
+    })
 }
 
-fn well_formed(s: &[u8]) -> Said {
-    let q = read::threshold(s, 4);
-    let keys = read::wide(s, q.next);
-    let t = q.threshold;
-    let x = threshold::check_well_formed(t, keys.n as usize);
-    told(s, keys.next, x)
+fn well_formed(s: &[u8]) -> Option<Said> {
+    let (t, at) = read::threshold(s, 4)?;
+    let (keys, at) = cursor::read_u64(s, at)?;
+    ends(s, at)?;
+    checked(threshold::check_well_formed(t, keys as usize))
 }
 
-fn witnesses(s: &[u8]) -> Said {
-    let q = read::list(s, 4, Kind::Key);
-    let l = q.items;
-    let x = member_set::check_witnesses(l, 1);
-    told(s, q.next, x)
+fn witnesses(s: &[u8]) -> Option<Said> {
+    let (l, at) = read::list(s, 4, Kind::Key)?;
+    ends(s, at)?;
+    checked(member_set::check_witnesses(l, 1))
 }
 
 // Cuts and additions alone: with the cuts themselves as the current members neither 21 nor 22 can come.
-fn deltas(s: &[u8]) -> Said {
-    let p = read::list(s, 4, Kind::Key);
-    let q = read::list(s, p.next, Kind::Key);
-    let cuts = p.items;
-    let adds = q.items;
-    let x = member_set::check_change(cuts, cuts, adds);
-    told(s, q.next, x)
+fn deltas(s: &[u8]) -> Option<Said> {
+    let (cuts, at) = read::list(s, 4, Kind::Key)?;
+    let (adds, at) = read::list(s, at, Kind::Key)?;
+    ends(s, at)?;
+    checked(member_set::check_change(cuts, cuts, adds))
 }
 
-fn identity(s: &[u8]) -> Said {
+fn identity(s: &[u8]) -> Option<Said> {
     let prefix = field::copy_item(s, 4);
-    let q = read::quorum(s, 37, Kind::Key);
-    let next = read::list(s, q.next, Kind::Said);
-    let witnesses = read::list(s, next.next, Kind::Key);
-    let anchors = read::word(s, witnesses.next);
-    let keys = q.items;
-    let t = q.threshold;
-    let digests = next.items;
-    let members = witnesses.items;
-    let x = inception::check_identity(prefix, keys, t, digests.count, members.count, anchors.n);
-    told(s, anchors.next, x)
+    let (keys, t, at) = read::quorum(s, 37, Kind::Key)?;
+    let (next, at) = read::list(s, at, Kind::Said)?;
+    let (witnesses, at) = read::list(s, at, Kind::Key)?;
+    let (anchors, at) = cursor::read_u32(s, at)?;
+    ends(s, at)?;
+    checked(inception::check_identity(prefix, keys, t, next.count, witnesses.count, anchors))
 }
 
-fn signatures(s: &[u8]) -> Said {
-    let q = read::quorum(s, 4, Kind::Key);
-    let w = read::sigers(s, q.next);
-    let keys = q.items;
-    let threshold = q.threshold;
-    let own = Authority { keys, threshold };
-    let l = w.sigs;
-    let x = authority::verify(own, l);
-    told(s, w.next, x)
+fn signatures(s: &[u8]) -> Option<Said> {
+    let (keys, threshold, at) = read::quorum(s, 4, Kind::Key)?;
+    let (l, at) = read::sigers(s, at)?;
+    ends(s, at)?;
+    checked(authority::verify(Authority { keys, threshold }, l))
 }
 
-fn opening(s: &[u8]) -> Said {
-    let p = read::quorum(s, 4, Kind::Said);
-    let q = read::quorum(s, p.next, Kind::Key);
-    let w = read::sigers(s, q.next);
-    let next = p.items;
-    let bar = p.threshold;
+fn opening(s: &[u8]) -> Option<Said> {
+    let (next, bar, at) = read::quorum(s, 4, Kind::Said)?;
+    let (keys, threshold, at) = read::quorum(s, at, Kind::Key)?;
+    let (l, at) = read::sigers(s, at)?;
+    ends(s, at)?;
     let old = Commitment {
         next,
         threshold: bar,
     };
-    let keys = q.items;
-    let threshold = q.threshold;
-    let own = Authority { keys, threshold };
-    let l = w.sigs;
-    let x = authority::verify_opening(old, own, l);
-    told(s, w.next, x)
+    checked(authority::verify_opening(old, Authority { keys, threshold }, l))
 }
 
-fn receipts(s: &[u8]) -> Said {
-    let toad = read::word(s, 4);
-    let q = read::list(s, toad.next, Kind::Key);
-    let p = read::sigers(s, q.next);
-    let witnesses = q.items;
-    let w = Witnessing {
-        witnesses,
-        toad: toad.n,
-    };
-    let l = p.sigs;
-    let x = authority::receipted_by(w, l);
-    told(s, p.next, x)
+fn receipts(s: &[u8]) -> Option<Said> {
+    let (toad, at) = cursor::read_u32(s, 4)?;
+    let (witnesses, at) = read::list(s, at, Kind::Key)?;
+    let (l, at) = read::sigers(s, at)?;
+    ends(s, at)?;
+    checked(authority::receipted_by(Witnessing { witnesses, toad }, l))
 }
 
 fn put_yes(out: &mut [u8], yes: bool) -> usize {
@@ -188,121 +159,103 @@ fn put_yes(out: &mut [u8], yes: bool) -> usize {
 }
 
 // A no names the first clause that is short, or 0.
-fn put_judged(out: &mut [u8], j: Judgement) -> usize {
-    match j {
-        Judgement::Met => put_yes(out, true),
-        Judgement::Short(clause) => {
-            let p = text::put_all(out, 0, b"no ");
-            text::put_decimal(out, p, clause as u64, b'\n')
-        }
-    }
+fn put_judged(out: &mut [u8], judged: Result<(), Short>) -> usize {
+    let Err(short) = judged else {
+        return put_yes(out, true);
+    };
+    let p = text::put_all(out, 0, b"no ");
+    text::put_decimal(out, p, short.clause as u64, b'\n')
 }
 
-fn put_with(out: &mut [u8], x: Answer, n: u32) -> usize {
-    let p = text::put_answer(out, 0, x, b' ');
-    text::put_decimal(out, p, n as u64, b'\n')
+fn put_taken(out: &mut [u8], t: Toad) -> usize {
+    let p = text::put_answer(out, 0, answer::accept(), b' ');
+    text::put_decimal(out, p, u64::from(t.0), b'\n')
 }
 
 fn put_said(out: &mut [u8], x: Said) -> usize {
     match x {
         Said::Plain(y) => text::put_answer(out, 0, y, b'\n'),
-        Said::With(y, n) => put_with(out, y, n),
+        Said::Taken(t) => put_taken(out, t),
         Said::Judged(j) => put_judged(out, j),
         Said::Yes(yes) => put_yes(out, yes),
-        Said::Bad => text::put_all(out, 0, b"bad\n"),
     }
 }
 
-fn put_members(out: &mut [u8], x: Said, l: Items) -> usize {
-    let Said::With(y, _) = x else {
-        return put_said(out, x);
-    };
-    let p = text::put_answer(out, 0, y, b' ');
-    text::put_items(out, p, l)
+fn put_refusal(out: &mut [u8], r: Refusal) -> usize {
+    text::put_answer(out, 0, Answer::from(r), b'\n')
 }
 
-fn members(s: &[u8], out: &mut [u8]) -> usize {
-    let p = read::list(s, 4, Kind::Key);
-    let q = read::list(s, p.next, Kind::Key);
-    let r = read::list(s, q.next, Kind::Key);
-    let current = p.items;
-    let cuts = q.items;
-    let adds = r.items;
-    let c = member_set::update(current, cuts, adds);
-    let x = c.answer;
-    let list = c.list;
-    put_members(out, valued(s, r.next, x, 0), list)
+fn update(s: &[u8]) -> Option<Result<Items, Refusal>> {
+    let (current, at) = read::list(s, 4, Kind::Key)?;
+    let (cuts, at) = read::list(s, at, Kind::Key)?;
+    let (adds, at) = read::list(s, at, Kind::Key)?;
+    ends(s, at)?;
+    Some(member_set::update(current, cuts, adds))
 }
 
-// No bytes are an empty holder, as bytes that are no state are.
-fn restored(s: &[u8]) -> Holder {
-    let r = restore::restore(s);
-    r.holder
+fn members(s: &[u8], out: &mut [u8]) -> Option<usize> {
+    Some(match update(s)? {
+        Ok(l) => {
+            let p = text::put_answer(out, 0, answer::accept(), b' ');
+            text::put_items(out, p, l)
+        }
+        Err(r) => put_refusal(out, r),
+    })
 }
 
-// A room, and a state's bytes, which are read into structs and saved from them into so many bytes.
-fn saved(s: &[u8], buf: &mut [u8]) -> Said {
-    let w = read::word(s, 4);
-    let room = w.n as usize;
-    if buf.len() < room {
-        return Said::Bad;
-    }
-    let h = restored(read::part(s, w.next, s.len()));
-    let x = snapshot::save(h, &mut buf[0..room]);
-    valued(s, s.len(), x, 0)
+// A room, and a state's bytes, which are read into structs and saved from them into so many bytes. No bytes are an empty holder,
+// as bytes that are no state are; a request without a room has none and no bytes.
+fn saved(s: &[u8], buf: &mut [u8]) -> Option<Result<usize, Refusal>> {
+    let (room, from) = cursor::read_u32(s, 4).unwrap_or((0, s.len()));
+    let buf = buf.get_mut(..room as usize)?;
+    let h = restore::restore(read::part(s, from, s.len())).unwrap_or(empty::nothing());
+    Some(snapshot::save(h, buf))
 }
 
 // The bytes that the answer says are written stand behind it.
-fn put_saved(out: &mut [u8], x: Said, buf: &[u8]) -> usize {
-    let Said::With(y, _) = x else {
-        return put_said(out, x);
-    };
-    let size = y.a;
-    let p = text::put_answer(out, 0, y, b' ');
-    text::put_bytes(out, p, read::part(buf, 0, size.low as usize))
-}
-
-fn save(s: &[u8], out: &mut [u8]) -> usize {
+fn save(s: &[u8], out: &mut [u8]) -> Option<usize> {
     let mut buf = [0u8; 4096];
-    let x = saved(s, &mut buf);
-    put_saved(out, x, &buf)
-}
-
-fn reply(mark: u16, s: &[u8]) -> Said {
-    match mark {
-        // AM, EX, SO, AN, AT, WF
-        0x414D => ample(s),
-        0x4558 => exact(s),
-        0x534F => satisfied(true, s),
-        0x414E => satisfied(false, s),
-        0x4154 => attainable(s),
-        0x5746 => well_formed(s),
-        // WI, DE, ID, SI, OP, RE
-        0x5749 => witnesses(s),
-        0x4445 => deltas(s),
-        0x4944 => identity(s),
-        0x5349 => signatures(s),
-        0x4F50 => opening(s),
-        0x5245 => receipts(s),
-        _ => Said::Bad,
-    }
-}
-
-fn put(s: &[u8], out: &mut [u8]) -> usize {
-    let mark = read::mark(s);
-    match mark {
-        // ME, SA
-        0x4D45 => members(s, out),
-        0x5341 => save(s, out),
-        _ => {
-            let x = reply(mark, s);
-            put_said(out, x)
+    Some(match saved(s, &mut buf)? {
+        Ok(size) => {
+            let x = answer::refuse(0, size as u64, 0);
+            let p = text::put_answer(out, 0, x, b' ');
+            text::put_bytes(out, p, read::part(&buf, 0, size))
         }
+        Err(r) => put_refusal(out, r),
+    })
+}
+
+fn reply(mark: u16, s: &[u8]) -> Option<Said> {
+    match mark {
+        AM => ample(s),
+        EX => exact(s),
+        SO => satisfied(true, s),
+        AN => satisfied(false, s),
+        AT => attainable(s),
+        WF => well_formed(s),
+        WI => witnesses(s),
+        DE => deltas(s),
+        ID => identity(s),
+        SI => signatures(s),
+        OP => opening(s),
+        RE => receipts(s),
+        _ => None,
     }
 }
 
-// s is the whole request, its mark and length included.
+fn put(s: &[u8], out: &mut [u8]) -> Option<usize> {
+    match read::mark(s) {
+        ME => members(s, out),
+        SA => save(s, out),
+        mark => Some(put_said(out, reply(mark, s)?)),
+    }
+}
+
+// s is the whole request, its mark and length included. A bad one is said to be bad.
 pub(crate) fn answer<W: Write>(output: &mut W, s: &[u8], out: &mut [u8]) -> io::Result<()> {
-    let used = put(s, out);
+    let used = match put(s, out) {
+        Some(used) => used,
+        None => text::put_all(out, 0, b"bad\n"),
+    };
     text::write(output, out, used)
 }

@@ -1,9 +1,11 @@
 // Records: offered to the held state, or folded, with compare's lines for each. The state stays the bytes that it is saved as.
 use crate::{calls, read, text};
-use answer::Answer;
+use answer::{Answer, Refusal};
 use report::Tally;
 use std::io;
 use std::io::Write;
+
+const KS: u16 = 0x4B53;
 
 #[derive(Clone, Copy)]
 pub struct Mode {
@@ -13,125 +15,14 @@ pub struct Mode {
     pub mixed: bool,
 }
 
-// What goes from record to record: beside the counts, how many bytes of its buffer the state has.
-#[derive(Clone, Copy)]
+// What goes from record to record: beside the counts, the state's buffer and how many of its bytes are used; and room for lines.
+#[derive(Drop)]
 pub struct Run {
-    pub mode: Mode,
-    pub tally: Tally,
-    pub kept: usize,
-}
-
-pub(crate) fn begin(mode: Mode) -> Run {
-    let tally = report::begin();
-    Run {
-        mode,
-        tally,
-        kept: 0,
-    }
-}
-
-fn offer(state: &mut [u8], kept: &mut usize, mark: u16, body: &[u8]) -> Answer {
-    in_place::offer_body(state, kept, mark, body)
-}
-
-// "a KS in a fold stream starts a new run with the state it brings, whatever was held" (compare/README.md). Where it is refused,
-// no byte of the old one is touched.
-fn start_with(state: &mut [u8], kept: &mut usize, body: &[u8]) -> Answer {
-    let before = *kept;
-    *kept = 0;
-    let x = offer(state, kept, 0x4B53, body);
-    if x.number != 0 {
-        *kept = before;
-    }
-    x
-}
-
-fn fold(state: &mut [u8], kept: &mut usize, mark: u16, body: &[u8]) -> Answer {
-    if mark == 0x4B53 {
-        return start_with(state, kept, body);
-    }
-    in_place::fold_body(state, kept, mark, body)
-}
-
-fn judge(folds: bool, state: &mut [u8], kept: &mut usize, mark: u16, body: &[u8]) -> Answer {
-    if folds {
-        return fold(state, kept, mark, body);
-    }
-    offer(state, kept, mark, body)
-}
-
-// The held state, where it is asked for: hex of its KS record, or -.
-fn put_state(out: &mut [u8], at: usize, asked: bool, state: &[u8], kept: usize) -> usize {
-    if !asked {
-        return at;
-    }
-    if kept == 0 {
-        return text::put_all(out, at, b"-\n");
-    }
-    text::put_bytes(out, at, read::part(state, 0, kept))
-}
-
-// The lines for an answer.
-fn tell<W: Write>(
-    output: &mut W,
-    mut run: Run,
-    mark: u16,
-    x: Answer,
-    state: &[u8],
-    out: &mut [u8],
-) -> io::Result<Run> {
-    let before = run.tally;
-    let told = report::tell(before, mark, x, out, 0);
-    let used = put_state(out, told.at, run.mode.states, state, run.kept);
-    text::write(output, out, used)?;
-    let tally = told.tally;
-    run.tally = tally;
-    Ok(run)
-}
-
-// s is the record with its mark and length; of a long body the first bytes that decide.
-fn record<W: Write>(
-    output: &mut W,
-    mut run: Run,
-    s: &[u8],
-    state: &mut [u8],
-    out: &mut [u8],
-) -> io::Result<Run> {
-    let folds = run.mode.fold;
-    let mark = read::mark(s);
-    let body = read::part(s, 4, s.len());
-    let x = judge(folds, state, &mut run.kept, mark, body);
-    tell(output, run, mark, x, state, out)
-}
-
-// "Fewer than 4 bytes left .., or a body past the end, is 1 and ends the input"
-pub(crate) fn cut<W: Write>(
-    output: &mut W,
-    run: Run,
-    state: &[u8],
-    out: &mut [u8],
-) -> io::Result<Run> {
-    if run.mode.calls {
-        calls::answer(output, b"", out)?;
-        return Ok(run);
-    }
-    let x = answer::refuse(1, 0, 0);
-    tell(output, run, 0, x, state, out)
-}
-
-// The last line; a run of calls has none.
-pub(crate) fn finish<W: Write>(
-    output: &mut W,
-    run: Run,
-    state: &[u8],
-    out: &mut [u8],
-) -> io::Result<()> {
-    if run.mode.calls {
-        return Ok(());
-    }
-    let tally = run.tally;
-    let used = report::tell_end(tally, state, run.kept, out, 0);
-    text::write(output, out, used)
+    mode: Mode,
+    tally: Tally,
+    state: [u8; 2285],
+    kept: usize,
+    out: [u8; 8192],
 }
 
 // No mode takes more than two letters.
@@ -139,36 +30,99 @@ fn has(s: &[u8], letter: u8) -> bool {
     read::byte(s, 4) == letter || read::byte(s, 5) == letter
 }
 
-// A record with mark 0 in a mixed input: the letters of its body are the flags for what follows, with an empty holder.
-fn again<W: Write>(
-    output: &mut W,
-    run: Run,
-    s: &[u8],
-    state: &[u8],
-    out: &mut [u8],
-) -> io::Result<Run> {
-    finish(output, run, state, out)?;
-    Ok(begin(Mode {
-        states: has(s, b's'),
-        fold: has(s, b'f'),
-        calls: has(s, b'c'),
-        mixed: true,
-    }))
-}
+impl Run {
+    pub(crate) fn begin(mode: Mode) -> Run {
+        Run {
+            mode,
+            tally: report::begin(),
+            state: [0; 2285],
+            kept: 0,
+            out: [0; 8192],
+        }
+    }
 
-pub(crate) fn one<W: Write>(
-    output: &mut W,
-    run: Run,
-    s: &[u8],
-    state: &mut [u8],
-    out: &mut [u8],
-) -> io::Result<Run> {
-    if run.mode.mixed && read::mark(s) == 0 {
-        return again(output, run, s, state, out);
+    // "a KS in a fold stream starts a new run with the state it brings, whatever was held" (compare/README.md). Where it is
+    // refused, no byte of the old one is touched.
+    fn start_with(&mut self, body: &[u8]) -> Answer {
+        let before = self.kept;
+        self.kept = 0;
+        let x = in_place::offer_body(&mut self.state, &mut self.kept, KS, body);
+        if x.number != 0 {
+            self.kept = before;
+        }
+        x
     }
-    if run.mode.calls {
-        calls::answer(output, s, out)?;
-        return Ok(run);
+
+    fn judge(&mut self, mark: u16, body: &[u8]) -> Answer {
+        if !self.mode.fold {
+            return in_place::offer_body(&mut self.state, &mut self.kept, mark, body);
+        }
+        if mark == KS {
+            return self.start_with(body);
+        }
+        in_place::fold_body(&mut self.state, &mut self.kept, mark, body)
     }
-    record(output, run, s, state, out)
+
+    // The held state, where it is asked for: hex of its KS record, or -.
+    fn put_state(&mut self, at: usize) -> usize {
+        if !self.mode.states {
+            return at;
+        }
+        if self.kept == 0 {
+            return text::put_all(&mut self.out, at, b"-\n");
+        }
+        text::put_bytes(&mut self.out, at, read::part(&self.state, 0, self.kept))
+    }
+
+    // The lines for an answer.
+    fn tell<W: Write>(&mut self, output: &mut W, mark: u16, x: Answer) -> io::Result<()> {
+        let told = report::tell(self.tally, mark, x, &mut self.out, 0);
+        let used = self.put_state(told.at);
+        self.tally = told.tally;
+        text::write(output, &self.out, used)
+    }
+
+    // "Fewer than 4 bytes left .., or a body past the end, is 1 and ends the input"
+    pub(crate) fn cut<W: Write>(&mut self, output: &mut W) -> io::Result<()> {
+        if self.mode.calls {
+            return calls::answer(output, b"", &mut self.out);
+        }
+        self.tell(output, 0, Answer::from(Refusal::Truncated))
+    }
+
+    // The last line; a run of calls has none.
+    pub(crate) fn finish<W: Write>(&mut self, output: &mut W) -> io::Result<()> {
+        if self.mode.calls {
+            return Ok(());
+        }
+        let used = report::tell_end(self.tally, &self.state, self.kept, &mut self.out, 0);
+        text::write(output, &self.out, used)
+    }
+
+    // A record with mark 0 in a mixed input: the letters of its body are the flags for what follows, with an empty holder.
+    fn again<W: Write>(&mut self, output: &mut W, s: &[u8]) -> io::Result<()> {
+        self.finish(output)?;
+        self.mode = Mode {
+            states: has(s, b's'),
+            fold: has(s, b'f'),
+            calls: has(s, b'c'),
+            mixed: true,
+        };
+        self.tally = report::begin();
+        self.kept = 0;
+        Ok(())
+    }
+
+    // s is the record with its mark and length; of a long body the first bytes that decide.
+    pub(crate) fn one<W: Write>(&mut self, output: &mut W, s: &[u8]) -> io::Result<()> {
+        let mark = read::mark(s);
+        if self.mode.mixed && mark == 0 {
+            return self.again(output, s);
+        }
+        if self.mode.calls {
+            return calls::answer(output, s, &mut self.out);
+        }
+        let x = self.judge(mark, read::part(s, 4, s.len()));
+        self.tell(output, mark, x)
+    }
 }

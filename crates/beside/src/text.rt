@@ -25,13 +25,11 @@ pub(crate) fn put_all(out: &mut [u8], at: usize, src: &[u8]) -> usize {
     p
 }
 
-fn wide(n: u8) -> u64 {
-    n as u64
-}
-
 // A digit: 0 to 9, then a to f.
-fn glyph(d: u8) -> u8 {
-    b"0123456789abcdef"[(d % 16) as usize]
+fn glyph(d: u64) -> u8
+    requires { d < 16 }
+{
+    b"0123456789abcdef"[d as usize]
 }
 
 // A number in base 10 or 16, with zeros in front up to a width.
@@ -41,46 +39,28 @@ fn put_number(out: &mut [u8], at: usize, n: u64, base: u64, width: usize) -> usi
 {
     let mut digits = [0u8; 20];
     let mut rest = n;
-    for i in 0..20 {
-        let first = 19 - i;
-        digits[first] = glyph((rest % base) as u8);
+    for i in (0..20).rev() {
+        digits[i] = glyph(rest % base);
         rest /= base;
-        if rest == 0 && width <= i + 1 {
-            return put_all(out, at, &digits[first..]);
+        if rest == 0 && width <= 20 - i {
+            return put_all(out, at, &digits[i..]);
         }
     }
     put_all(out, at, &digits)
 }
 
-fn put_word(out: &mut [u8], at: usize, n: u64, width: usize) -> usize {
-    put_number(out, at, n, 16, width)
-}
-
-// Two digits; where `bare`, without leading zeros.
-fn put_byte(out: &mut [u8], at: usize, bare: bool, b: u8) -> usize {
-    if !bare {
-        return put_word(out, at, wide(b), 2);
-    }
-    if b == 0 {
-        return at;
-    }
-    put_word(out, at, wide(b), 1)
-}
-
-// Bytes in hex; where `short`, without leading zeros.
-fn put_hex(out: &mut [u8], at: usize, src: &[u8], short: bool) -> usize {
+// Bytes in hex, two digits each.
+fn put_hex(out: &mut [u8], at: usize, src: &[u8]) -> usize {
     let mut p = at;
-    let mut bare = short;
     for b in src {
-        p = put_byte(out, p, bare, *b);
-        bare = bare && *b == 0;
+        p = put_number(out, p, u64::from(*b), 16, 2);
     }
     p
 }
 
 // A line of bytes in hex.
 pub(crate) fn put_bytes(out: &mut [u8], at: usize, src: &[u8]) -> usize {
-    let p = put_hex(out, at, src, false);
+    let p = put_hex(out, at, src);
     put(out, p, b'\n')
 }
 
@@ -91,10 +71,10 @@ pub(crate) fn put_decimal(out: &mut [u8], at: usize, n: u64, behind: u8) -> usiz
 
 fn put_words(out: &mut [u8], at: usize, n: Number) -> usize {
     if n.high == 0 {
-        return put_word(out, at, n.low, 1);
+        return put_number(out, at, n.low, 16, 1);
     }
-    let p = put_word(out, at, n.high, 1);
-    put_word(out, p, n.low, 16)
+    let p = put_number(out, at, n.high, 16, 1);
+    put_number(out, p, n.low, 16, 16)
 }
 
 fn put_detail(out: &mut [u8], at: usize, n: Number, behind: u8) -> usize {
@@ -104,43 +84,34 @@ fn put_detail(out: &mut [u8], at: usize, n: Number, behind: u8) -> usize {
 
 // Number, a and b as keyreport writes them.
 pub(crate) fn put_answer(out: &mut [u8], at: usize, x: Answer, behind: u8) -> usize {
-    let a = x.a;
-    let b = x.b;
-    let p = put_decimal(out, at, wide(x.number), b' ');
-    let q = put_detail(out, p, a, b' ');
-    put_detail(out, q, b, behind)
+    let p = put_decimal(out, at, u64::from(x.number), b' ');
+    let q = put_detail(out, p, x.a, b' ');
+    put_detail(out, q, x.b, behind)
 }
 
 // A code letter and the hex digits of the rest, without leading zeros.
-fn put_item(out: &mut [u8], at: usize, x: Item, behind: u8) -> usize {
-    let raw = x.raw;
+fn put_item(out: &mut [u8], at: usize, x: &Item) -> usize {
     let p = put(out, at, x.code);
-    let q = put_hex(out, p, &raw, true);
-    put(out, q, behind)
-}
-
-fn after(i: usize, n: usize) -> u8 {
-    if i < n { b',' } else { b'\n' }
-}
-
-fn put_each(out: &mut [u8], at: usize, items: [Item; 16], n: usize) -> usize {
-    let mut p = at;
-    for i in 0..16 {
-        if n <= i {
-            return p;
-        }
-        p = put_item(out, p, items[i], after(i + 1, n));
-    }
-    p
+    let Some(first) = x.raw.iter().position(|b| *b != 0) else {
+        return p;
+    };
+    let q = put_number(out, p, u64::from(x.raw[first]), 16, 1);
+    put_hex(out, q, &x.raw[first + 1..])
 }
 
 // A line of items with commas between, or - for none.
 pub(crate) fn put_items(out: &mut [u8], at: usize, l: Items) -> usize {
-    let items = l.at;
     if l.count == 0 {
         return put_all(out, at, b"-\n");
     }
-    put_each(out, at, items, l.count)
+    let mut p = at;
+    for (i, x) in l.at.iter().take(l.count).enumerate() {
+        if i != 0 {
+            p = put(out, p, b',');
+        }
+        p = put_item(out, p, x);
+    }
+    put(out, p, b'\n')
 }
 
 pub(crate) fn write<W: Write>(output: &mut W, out: &[u8], used: usize) -> io::Result<()> {

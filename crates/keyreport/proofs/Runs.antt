@@ -27,9 +27,8 @@ use Rattle.stream.specs.declared.Span.{Span}
 use Rattle.stream.specs.declared.Place.{Place}
 use Rattle.stream.specs.declared.Next.{Next}
 use Rattle.stream.specs.declared.Next.TheVariants as N
-use Rattle.stream.specs.Window.{size_of, Stands}
+use Rattle.stream.specs.Window.{size_of, Stands, Found}
 use Rattle.stream.specs.Left.{left_of, Begins, Gives}
-use Rattle.keyreport.specs.declared.Room.TheVariants as R
 use Rattle.keyreport.specs.Run.{mark_at, body_at, Flushed, cut_lines, Finished}
 use Rattle.keyreport.proofs.Laws.{told_tally, told_behind}
 use Rattle.keyreport.proofs.Shown.{step_shown, answer_shown, state_shown, cut_shown, begins}
@@ -41,10 +40,18 @@ bytes_of (x ∷ xs) h = ((h 0).fits, bytes_of xs (λ i. h (suc i)))
 pub body_bytes : (w : List ℕ) (p : Place) → ((i : ℕ) → Fits w8 (get_or w i 0)) → Bytes (body_at w p)
 body_bytes w p h = bytes_take (p.to - (p.from + 4)) (drop (p.from + 4) w) (bytes_drop (p.from + 4) w (bytes_of w h))
 
+-- ---- A record that was found
+module _ {E : Type 0} (x : Result Next E) (n : Next) (p : Place) (is : x ≡ Ok n) (one : n ≡ N.Record p) where
+  pub stands_there : (before after : List ℕ) (old : Span) → Found before old after x → Stands before old after p
+  stands_there before after old h = subst (Found before old after) (is ∙ ap Ok one) h
+
+  pub begins_there : (left left' : Option (List ℕ)) (v : List ℕ) → IfSome left (λ r. Gives r v left' x) → IfSome left (λ r. Begins r v left' p)
+  begins_there left left' v h = subst (λ (y : Result Next E). IfSome left (λ r. Gives r v left' y)) (is ∙ ap Ok one) h
+
 -- ---- Bytes that are no record: their line, and the last line, behind the lines so far
 pub cut_told : {E : Type 0} (buf : List ℕ) (used : ℕ) (t : Tally) (at : ℕ) (out : List ℕ) (x : Answer) (buf' : List ℕ) (used' : ℕ) (last : Told) (out' : List ℕ) (n : ℕ) (before mid after : Option (List ℕ)) (r : Result (Unit {0}) E)
     → at + longest ≤ length out → x ≡ (offered_in buf used []).answer → buf' ≡ (offered_in buf used []).bytes → used' ≡ (offered_in buf used []).used
-    → last ≡ (told t 0 x at out).0 → out' ≡ (told t 0 x at out).1 → Flushed before mid (take last.at out') out' (R.From n)
+    → last ≡ (told t 0 x at out).0 → out' ≡ (told t 0 x at out).1 → Flushed {E = Unit {0}} before mid (take last.at out') out' (Ok n)
     → OnOk r (Appends mid after (take n out' ++ last_line last.tally (kept_in buf' used').holder))
     → OnOk r (Appends before after (take at out ++ cut_lines t (offered_in buf used [])))
 cut_told buf used t at out x buf' used' last out' n before mid after (Err e) room a f u l o flushed w = tt
@@ -115,14 +122,14 @@ module _ (s : List ℕ) (before mid after : Option (List ℕ)) (lines : List ℕ
       let f : report s ≡ pr.wrote ++ (lines ++ last) = pr.total ∙ ap (λ (xs : List ℕ). pr.wrote ++ (lines ++ xs)) e in
       subst (Appends before after) (sym f) (Appends-trans before mid after _ _ pr.appended a)
 
-  ends_run : (v : List ℕ) (left' : Option (List ℕ)) → IfSome left (λ r. Gives r v left' N.Ended) → Finished mid after lines t buf used N.Ended → Appends before after (report s)
+  ends_run : (v : List ℕ) (left' : Option (List ℕ)) → IfSome left (λ r. r ≡ []) → Appends mid after (lines ++ last_line t (kept_in buf used).holder) → Appends before after (report s)
   ends_run v left' g f =
       let none : pr.rest ≡ [] = given left pr.rest _ pr.left_is g in
       let e : reported (suc pr.most) t pr.holder pr.rest ≡ last_line t (kept_in buf used).holder =
       rw (none, same_holder) (end_step pr.most t pr.holder) in
       ends_with _ e f
 
-  cut_run : (v : List ℕ) (left' : Option (List ℕ)) → Bytes buf → 2285 ≤ length buf → IfSome left (λ r. Gives r v left' N.Cut) → Finished mid after lines t buf used N.Cut → Appends before after (report s)
+  cut_run : (v : List ℕ) (left' : Option (List ℕ)) → Bytes buf → 2285 ≤ length buf → IfSome left (λ r. (0 < length r) × (length r < size_of r)) → Appends mid after (lines ++ cut_lines t (offered_in buf used [])) → Appends before after (report s)
   cut_run v left' bytes large g f =
       let short : (0 < length pr.rest) × (length pr.rest < size_of pr.rest) = given left pr.rest _ pr.left_is g in
       let one_more : pr.most ≡ suc (pr.most - 1) = (let h = pr.enough in omega (arith, short.0)) in
@@ -133,7 +140,7 @@ module _ (s : List ℕ) (before mid after : Option (List ℕ)) (lines : List ℕ
       rw (one_more, x, h) (cut_step (pr.most - 1) t pr.holder pr.rest short.0 (inr short.1)) in
       ends_with _ e f
 
-  module _ (w v : List ℕ) (old : Span) (p : Place) (left' : Option (List ℕ)) (st : Stands w old v p) (large_window : 10090 < length v) (g : IfSome left (λ r. Gives r v left' (N.Record p))) (bytes : Bytes buf) (body_bytes : Bytes (body_at v p)) (large : 2285 ≤ length buf) where
+  module _ (w v : List ℕ) (old : Span) (p : Place) (left' : Option (List ℕ)) (st : Stands w old v p) (large_window : 10090 < length v) (g : IfSome left (λ r. Begins r v left' p)) (bytes : Bytes buf) (body_bytes : Bytes (body_at v p)) (large : 2285 ≤ length buf) where
     b : Begins pr.rest v left' p
     b = given left pr.rest _ pr.left_is g
 
@@ -174,7 +181,7 @@ module _ (s : List ℕ) (before mid after : Option (List ℕ)) (lines : List ℕ
     goes_on : (answer : Answer) (buf' : List ℕ) (used' mark : ℕ) (out out' : List ℕ) (at n : ℕ) (last : Told) → mark ≡ mark_at v p
         → answer ≡ (body_offered_in buf used mark (body_at v p)).answer → buf' ≡ (body_offered_in buf used mark (body_at v p)).bytes → used' ≡ (body_offered_in buf used mark (body_at v p)).used
         → lines ≡ take at out → at + longest ≤ length out → last ≡ (told t mark answer at out).0 → out' ≡ (told t mark answer at out).1
-        → Flushed mid after (take last.at out') out' (R.From n)
+        → Flushed {E = Unit {0}} mid after (take last.at out') out' (Ok n)
         → Progress s before after (take n out') (left_of v (record { from = p.to; to = p.end }) left') last.tally (kept_in buf' used')
     goes_on answer buf' used' mark out out' at n last m a f u here room l o (wrote, appended, kept) =
         let an : answer ≡ x = a ∙ ap (λ (i : ℕ). (body_offered_in buf used i (body_at v p)).answer) m ∙ same_answer in
@@ -212,12 +219,12 @@ run_begins (Some s) before w buf used t e z =
     subst (λ (y : Tally). Progress s before before [] (Some s) y (kept_in buf used)) (sym e) (begins_run s before [] (Some s) buf used refl refl z)
 
 module _ (known before mid after : Option (List ℕ)) (lines : List ℕ) (left : Option (List ℕ)) (t : Tally) (buf : List ℕ) (used : ℕ) (pr : IfSome known (λ s. Progress s before mid lines left t (kept_in buf used))) where
-  pub run_goes_on : (w v : List ℕ) (old : Span) (p : Place) (left' : Option (List ℕ)) → Stands w old v p → 10090 < length v → IfSome left (λ r. Gives r v left' (N.Record p))
+  pub run_goes_on : (w v : List ℕ) (old : Span) (p : Place) (left' : Option (List ℕ)) → Stands w old v p → 10090 < length v → IfSome left (λ r. Begins r v left' p)
       → Bytes buf → Bytes (body_at v p) → 2285 ≤ length buf
       → (answer : Answer) (buf' : List ℕ) (used' mark : ℕ) (out out' : List ℕ) (at n : ℕ) (last : Told) → mark ≡ mark_at v p
       → answer ≡ (body_offered_in buf used mark (body_at v p)).answer → buf' ≡ (body_offered_in buf used mark (body_at v p)).bytes → used' ≡ (body_offered_in buf used mark (body_at v p)).used
       → lines ≡ take at out → at + longest ≤ length out → last ≡ (told t mark answer at out).0 → out' ≡ (told t mark answer at out).1
-      → Flushed mid after (take last.at out') out' (R.From n)
+      → Flushed {E = Unit {0}} mid after (take last.at out') out' (Ok n)
       → IfSome known (λ s. Progress s before after (take n out') (left_of v (record { from = p.to; to = p.end }) left') last.tally (kept_in buf' used'))
   run_goes_on w v old p left' st wide g bytes body large answer buf' used' mark out out' at n last m a f u here room l o flushed = go known pr
     where
@@ -226,15 +233,15 @@ module _ (known before mid after : Option (List ℕ)) (lines : List ℕ) (left :
       go None q = tt
       go (Some s) q = goes_on s before mid after lines left t buf used q w v old p left' st wide g bytes body large answer buf' used' mark out out' at n last m a f u here room l o flushed
 
-  pub run_ends : {E : Type 0} (r : Result (Unit {0}) E) (v : List ℕ) (left' : Option (List ℕ)) (next : Next) → ((p : Place) → next ≡ N.Record p → ⊥)
-      → Bytes buf → 2285 ≤ length buf → IfSome left (λ rest. Gives rest v left' next) → OnOk r (Finished mid after lines t buf used next) → OnOk r (IfSome known (λ s. Appends before after (report s)))
-  run_ends (Err e) v left' next other bytes large g f = tt
-  run_ends (Ok x) v left' next other bytes large g f = go known pr next other g f
+  pub run_ends : {E F : Type 0} (r : Result (Unit {0}) E) (v : List ℕ) (left' : Option (List ℕ)) (x : Result Next F) (next : Next) → x ≡ Ok next → ((p : Place) → next ≡ N.Record p → ⊥)
+      → Bytes buf → 2285 ≤ length buf → IfSome left (λ rest. Gives rest v left' x) → OnOk r (Finished mid after lines t buf used next) → OnOk r (IfSome known (λ s. Appends before after (report s)))
+  run_ends (Err e) v left' x next is other bytes large g f = tt
+  run_ends {F = F} (Ok y) v left' x next is other bytes large g f =
+      go known pr next other (subst (λ (z : Result Next F). IfSome left (λ rest. Gives rest v left' z)) is g) f
     where
       go : (known : Option (List ℕ)) → IfSome known (λ s. Progress s before mid lines left t (kept_in buf used)) → (next : Next) → ((p : Place) → next ≡ N.Record p → ⊥)
-          → IfSome left (λ rest. Gives rest v left' next) → Finished mid after lines t buf used next → IfSome known (λ s. Appends before after (report s))
+          → IfSome left (λ rest. Gives {E = F} rest v left' (Ok next)) → Finished mid after lines t buf used next → IfSome known (λ s. Appends before after (report s))
       go None q next other g f = tt
       go (Some s) q (N.Record p) other g f = absurd (other p refl)
       go (Some s) q N.Cut other g f = cut_run s before mid after lines left t buf used q v left' bytes large g f
       go (Some s) q N.Ended other g f = ends_run s before mid after lines left t buf used q v left' g f
-      go (Some s) q (N.Failed e) other g f = absurd f

@@ -1,6 +1,6 @@
 -- What a step of the program asks of a record in the window, room for a line, and what is written: the report of the input, where
 -- the reader and the writer say which bytes they have.
-use Rattle.std.specs.Prelude.{ℕ, ◌+◌, ◌-◌, ◌*◌, ◌≤◌, ◌<◌, ◌≡◌, List, [], ◌++◌, length, take, drop, get_or, Option, IfSome}
+use Rattle.std.specs.Prelude.{ℕ, ◌+◌, ◌-◌, ◌*◌, ◌≤◌, ◌<◌, ◌≡◌, List, [], ◌++◌, length, take, drop, get_or, Option, IfSome, Result, Ok, Err}
 use Rattle.std.specs.Io.KnownBytes.{Appends}
 use Rattle.stream.specs.declared.Place.{Place}
 use Rattle.stream.specs.declared.Next.{Next}
@@ -10,8 +10,6 @@ use Rattle.found.specs.Kept.{kept_in}
 use Rattle.report.specs.declared.Tally.{Tally}
 use Rattle.report.specs.Report.{counted, line_of, last_line, report}
 use Rattle.in_place.specs.Calls.{Left, offered_in}
-use Rattle.keyreport.specs.declared.Room.{Room}
-use Rattle.keyreport.specs.declared.Room.TheVariants as R
 
 -- "a two-byte ASCII mark", and the bytes of the body that stand in the window
 abbrev pub mark_at : List ℕ → Place → ℕ
@@ -21,25 +19,24 @@ abbrev pub body_at : List ℕ → Place → List ℕ
 body_at w p = take (p.to - (p.from + 4)) (drop (p.from + 4) w)
 
 -- a line fits behind the place
-abbrev pub Fits : ℕ → Room → Type 0
-Fits most (R.From at) = at + longest ≤ most
-Fits most (R.Failed e) = Unit {0}
+abbrev pub Fits : {E : Type 0} → ℕ → Result ℕ E → Type 0
+Fits most (Ok at) = at + longest ≤ most
+Fits most (Err e) = Unit {0}
 
 -- the lines that stood up to a place are written or still stand
-abbrev pub Flushed : Option (List ℕ) → Option (List ℕ) → List ℕ → List ℕ → Room → Type 0
-Flushed before after lines out (R.From n) = (wrote : List ℕ) × Appends before after wrote × (lines ≡ wrote ++ take n out)
-Flushed before after lines out (R.Failed e) = Unit {0}
+abbrev pub Flushed : {E : Type 0} → Option (List ℕ) → Option (List ℕ) → List ℕ → List ℕ → Result ℕ E → Type 0
+Flushed before after lines out (Ok n) = (wrote : List ℕ) × Appends before after wrote × (lines ≡ wrote ++ take n out)
+Flushed before after lines out (Err e) = Unit {0}
 
 -- the line for bytes that are no record, and the last line
 abbrev pub cut_lines : Tally → Left → List ℕ
 cut_lines t l = line_of t 0 l.answer ++ last_line (counted t l.answer) (kept_in l.bytes l.used).holder
 
--- where nothing failed: the lines so far, and those that end the report
+-- where no read and no write failed: the lines so far, and those that end the report
 abbrev pub Finished : Option (List ℕ) → Option (List ℕ) → List ℕ → Tally → List ℕ → ℕ → Next → Type 0
 Finished before after lines t buf used N.Cut = Appends before after (lines ++ cut_lines t (offered_in buf used []))
 Finished before after lines t buf used N.Ended = Appends before after (lines ++ last_line t (kept_in buf used).holder)
 Finished before after lines t buf used (N.Record p) = Unit {0}
-Finished before after lines t buf used (N.Failed e) = ⊥
 
 -- no state is held yet, the buffer has room for every state, and the window for every good record
 abbrev pub Ready : ℕ → List ℕ → List ℕ → Type 0

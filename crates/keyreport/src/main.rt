@@ -11,7 +11,6 @@ ghost use Rattle.in_place.specs.Calls.{offered_in, body_offered_in};
 ghost use Rattle.keyreport.specs.Run.{mark_at, body_at, Fits, Flushed, cut_lines, Finished, Ready, Reports};
 
 use answer::Answer;
-use cursor::Num16;
 use report::Tally;
 use std::io::{Eprint, ErrorKind, Read, Write};
 use std::process::ExitCode;
@@ -42,27 +41,18 @@ impl fmt::Display for Failure {
     }
 }
 
-// Where the next line begins, or a write that failed.
-#[derive(Clone, Copy)]
-enum Room {
-    From(usize),
-    Failed(io::Error),
-}
-
-// Where the longest line would not fit behind the first `at` bytes of `out`, those are written.
-fn make_room<W: Write>(output: &mut W, out: &[u8], at: usize) -> Room
+// Where the longest line would not fit behind the first `at` bytes of `out`, those are written. It gives the next line's place.
+fn make_room<W: Write>(output: &mut W, out: &[u8], at: usize) -> Result<usize, Failure>
     requires at_in_bounds { at ≤ length out.now }
     requires in_bounds { 111 ≤ length out.now }
     ensures room { Fits (length out.now) result }
     ensures bytes { Flushed (W.contents output.old) (W.contents output.new) (take at out.now) out.now result }
 {
     if lines::LONGEST <= out.len() - at {
-        return Room::From(at);
+        return Ok(at);
     }
-    match stream::write_all(output, &out[..at]) {
-        Ok(()) => Room::From(0),
-        Err(e) => Room::Failed(e),
-    }
+    stream::write_all(output, &out[..at]).map_err(Failure::Output)?;
+    Ok(0)
 }
 
 fn mark_at(window: &[u8], place: Place) -> u16
@@ -70,13 +60,11 @@ fn mark_at(window: &[u8], place: Place) -> u16
     requires to_in_bounds { place.to ≤ length window.now }
     ensures { result ≡ mark_at window.now place }
 {
-    match cursor::read_u16(window, place.from) {
-        Num16::Of(mark, _) => mark,
-        Num16::Short => 0,
-    }
+    u16::from_be_bytes([window[place.from], window[place.from + 1]])
 }
 
 // A record of the window is offered to the state.
+#[tactic(auto, using(crate::proofs::Runs::body_bytes))]
 fn offer(state: &mut [u8], used: &mut usize, mark: u16, window: &[u8], place: Place) -> Answer
     requires from_bound { place.from + 4 ≤ place.to }
     requires to_in_bounds { place.to ≤ length window.now }
@@ -85,11 +73,10 @@ fn offer(state: &mut [u8], used: &mut usize, mark: u16, window: &[u8], place: Pl
     ensures used_after { used.new ≡ (body_offered_in state.old used.old mark (body_at window.now place)).used }
     ensures body_bytes { Bytes (body_at window.now place) }
 {
-    let body = place.from + 4;
-    let to = place.to;
-    in_place::offer_body(state, used, mark, &window[body..to])
+    in_place::offer_body(state, used, mark, &window[place.from + 4..place.to])
 }
 
+#[tactic(auto, using(crate::proofs::Laws::prefix_length, crate::proofs::Laws::end_in, crate::proofs::Laws::end_behind))]
 fn end<W: Write>(
     output: &mut W,
     t: Tally,
@@ -106,6 +93,7 @@ fn end<W: Write>(
 }
 
 // Bytes that are no record get what no bytes get: "A one-record call on no bytes answers 1 too."
+#[tactic(auto, using(crate::proofs::Laws::told_in, crate::proofs::Runs::cut_told))]
 fn cut<W: Write>(
     output: &mut W,
     t: Tally,
@@ -119,18 +107,19 @@ fn cut<W: Write>(
 {
     let answer = in_place::offer(state, used, b"");
     let last = report::tell(t, 0, answer, out, at);
-    let tally = last.tally;
-    match make_room(output, out, last.at) {
-        Room::From(behind) => {
-            let n = *used;
-            end(output, tally, state, n, out, behind)
-        }
-        Room::Failed(e) => Err(Failure::Output(e)),
-    }
+    let behind = make_room(output, out, last.at)?;
+    end(output, last.tally, state, *used, out, behind)
 }
 
-// No further record: the input ended, inside a record or behind one, or a read failed. Then the lines so far are written, and no
-// last one; that the read failed is said, whatever becomes of the lines.
+// A read failed: the lines so far are written, and no last one; that it failed is said, whatever becomes of the lines.
+fn failed<W: Write>(output: &mut W, e: io::Error, out: &[u8], at: usize) -> Failure
+    requires { at ≤ length out.now }
+{
+    let _ = stream::write_all(output, &out[..at]);
+    Failure::Input(e)
+}
+
+// No further record: the input ended, inside a record or behind one.
 fn finish<W: Write>(
     output: &mut W,
     t: Tally,
@@ -145,15 +134,8 @@ fn finish<W: Write>(
 {
     match next {
         Next::Cut => cut(output, t, state, used, out, at),
-        Next::Ended => {
-            let n = *used;
-            end(output, t, state, n, out, at)
-        }
+        Next::Ended => end(output, t, state, *used, out, at),
         Next::Record(_) => Ok(()),
-        Next::Failed(e) => {
-            let _ = stream::write_all(output, &out[..at]);
-            Err(Failure::Input(e))
-        }
     }
 }
 
@@ -173,17 +155,17 @@ fn run<R: Read, W: Write>(
     let mut span = Span { from: 0, to: 0 };
     let mut at: usize = 0;
     for _ in 0..u64::MAX {
-        let next = stream::read_next(input, window, span);
+        let next = match stream::read_next(input, window, span) {
+            Ok(next) => next,
+            Err(e) => return Err(failed(output, e, out, at)),
+        };
         let Next::Record(place) = next else {
             return finish(output, t, state, used, next, out, at);
         };
         let mark = mark_at(window, place);
         let answer = offer(state, used, mark, window, place);
         let last = report::tell(t, mark, answer, out, at);
-        match make_room(output, out, last.at) {
-            Room::From(behind) => at = behind,
-            Room::Failed(e) => return Err(Failure::Output(e)),
-        }
+        at = make_room(output, out, last.at)?;
         t = last.tally;
         span = Span {
             from: place.to,
