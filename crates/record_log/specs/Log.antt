@@ -1,6 +1,5 @@
 -- A byte string record after record, refused or not, until it ends: what it holds, what each record gets, what is held after it.
 use Rattle.std.specs.Prelude.{ℕ, zero, suc, ◌+◌, ◌≡◌, List, [], ◌∷◌, Bool, length, drop}
-use Rattle.lists.specs.Lists.{pick}
 use Rattle.runs.specs.Runs.{end_of, kept_of, answers_of}
 use Rattle.number.specs.Number.{value}
 use Rattle.answer.specs.declared.Answer.{Answer}

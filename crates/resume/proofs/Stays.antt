@@ -23,7 +23,6 @@ use Rattle.item.specs.Item.{item_fits}
 use Rattle.items.specs.declared.Items.{Items}
 use Rattle.items.specs.Items as items
 use Rattle.items.proofs.Laws as items-laws
-use Rattle.config.specs.Config as config
 use Rattle.threshold.specs.Threshold as threshold
 use Rattle.member_set.specs.Members.{Change, absent, joined, updated, change_of}
 use Rattle.event.specs.declared.Ilk.{Ilk}
