@@ -1,46 +1,34 @@
--- From the first record, the scan of a threshold and the details to what each call tells. Assumes nothing.
-use mathlib.Core.Path.{◌≡◌, sym, ◌∙◌, ap}
+-- From the scan of a threshold to whether it is attainable. Assumes nothing.
+use mathlib.Core.Path.{◌≡◌, sym, ◌∙◌}
 use mathlib.Core.Bool.{false}
 use mathlib.Core.List.{List}
 use Prim.Native.Nat.{ℕ}
 use borrow.Author.Tests.{eq-eqb, ne_eqb}
 use lib.ListN.{length}
-use Rattle.answer.specs.declared.Answer.{Answer}
-use Rattle.threshold.specs.declared.Threshold.{Threshold}
-use Rattle.format.specs.Parse.{bind, ended}
+use Rattle.format.specs.Parse.{Parse, got, bad, bind, ended}
 use Rattle.cursor.specs.Spans.{mapped}
-use Rattle.layout.specs.Records.{first_of, next_in}
 use Rattle.threshold_field.specs.declared.Marks.{Marks}
-use Rattle.threshold_field.specs.declared.Marked as T
-use Rattle.threshold_field.specs.ThresholdField.{marked_is, marks_at, threshold_of}
+use Rattle.threshold_field.specs.ThresholdField.{marks_at, threshold_of}
 use Rattle.threshold_field.proofs.Laws.{threshold_values}
 use Rattle.attainable.specs.Attainable.{attainable_by, attained}
-use Rattle.device.specs.Calls.{words, length_in, threshold_alone, attainable_read, attainable_in}
-
--- ---- how long the first record is
-pub length_of : (s : List ℕ) (n : ℕ) → n ≡ next_in s (first_of s) → n ≡ length_in s
-unfolding length_in
-length_of s n e = e
+use Rattle.device.specs.Calls.{threshold_alone, attainable_read, attainable_in}
 
 -- ---- a threshold alone
-module _ (s : List ℕ) (keys : ℕ) (x : T.Marked) (is : marked_is x ≡ marks_at s 0) where
-  threshold_read : (y : T.Marked) → x ≡ y → attainable_in s keys ≡ attainable_read keys (bind (mapped (threshold_of s) (marked_is y)) (ended s))
+module _ (s : List ℕ) (keys : ℕ) where
+  threshold_read : (p : Parse Marks) → p ≡ marks_at s 0 → attainable_read keys (bind (mapped (threshold_of s) p) (ended s)) ≡ attainable_in s keys
   unfolding attainable_in threshold_alone
-  threshold_read y told = rw (← threshold_values s 0, ← is, told)
+  threshold_read p is = rw (← threshold_values s 0, ← is)
 
-  pub attainable_unread : (n : ℕ) → x ≡ T.TheVariants.No n → attained n false ≡ attainable_in s keys
-  attainable_unread n told = sym (threshold_read _ told)
+  pub unread : (n : ℕ) → bad n ≡ marks_at s 0 → attained n false ≡ attainable_in s keys
+  unread n is = threshold_read (bad n) is
 
-  module _ (m : Marks) (end : ℕ) (told : x ≡ T.TheVariants.Of m end) where
-    pub attainable-over : (end ≡ length s → ⊥) → attained 3 false ≡ attainable_in s keys
+  module _ (m : Marks) (end : ℕ) (is : got m end ≡ marks_at s 0) where
+    pub read_over : (end ≡ length s → ⊥) → attained 3 false ≡ attainable_in s keys
     unfolding ended
-    attainable-over ne = rw (threshold_read _ told, ne_eqb end (length s) ne)
+    read_over ne = rw (ne_eqb end (length s) ne) at (threshold_read (got m end) is)
 
-    pub attainable_whole : (t : Threshold) → end ≡ length s → t ≡ threshold_of s m → attainable_by t keys ≡ attainable_in s keys
+    pub read_whole : end ≡ length s → attainable_by (threshold_of s m) keys ≡ attainable_in s keys
     unfolding ended
-    attainable_whole t e et = rw (threshold_read _ told, eq-eqb end (length s) e, et)
+    read_whole e = rw (eq-eqb end (length s) e) at (threshold_read (got m end) is)
 
--- ---- what is told
-module _ (r : ℕ) (d : List ℕ) (x : Answer) (er : r ≡ x.number) (ed : d ≡ words x) where
-  pub told : (y : Answer) → x ≡ y → (r ≡ y.number) × (d ≡ words y)
-  told y e = (er ∙ ap (λ (z : Answer). z.number) e, ed ∙ ap words e)
+pub ruleset alone = (unread, read_over, read_whole)

@@ -5,8 +5,7 @@ use Rattle.threshold.specs.declared.Threshold.{Threshold}
 use Rattle.layout.specs.Records.{first_of, next_in}
 use Rattle.format.specs.Parse.{Parse, got, bad, ◌>>=◌, ended}
 use Rattle.format.specs.Fields.{threshold_at}
-use Rattle.attainable.specs.declared.Attained.{Attained}
-use Rattle.attainable.specs.Attainable.{attainable_by, attained}
+use Rattle.attainable.specs.Attainable.{Attained, attainable_by, attained}
 
 -- ---- Details: a and b, each as its high and its low word
 abbrev pub words : Answer → List ℕ

@@ -1,24 +1,20 @@
 // The device's calls, which crate device_c exports to C: on a state that lies in a lent buffer, as its snapshot's bytes or as nothing.
 #![tactic(auto)]
 
-ghost use Rattle.std.specs.Prelude.{◌≡◌, false};
+ghost use Rattle.std.specs.Prelude.{◌≡◌};
 ghost use Rattle.snapshot.specs.Bytes.{flag_byte};
-ghost use Rattle.attainable.specs.Attainable.{attained};
+ghost use Rattle.attainable.specs.Attainable.{attained_as};
 ghost use Rattle.in_place.specs.Calls.{offered_in, folded_in, asked};
 ghost use Rattle.device.specs.Calls.{words, length_in, attainable_in};
 
-use answer::Answer;
-use attainable::Attained;
-use threshold_field::Marked;
+use answer::{Answer, Refusal};
 
 // The details as words, the number as the result.
 fn tell(x: Answer, details: &mut [u64; 4]) -> u8
     ensures value { result ≡ x.number }
     ensures details_after { details.new ≡ words x }
 {
-    let a = x.a;
-    let b = x.b;
-    *details = [a.high, a.low, b.high, b.low];
+    *details = [x.a.high, x.a.low, x.b.high, x.b.low];
     x.number
 }
 
@@ -34,8 +30,7 @@ pub fn keystate_offer(
     ensures state_after { state.new ≡ (offered_in state.old used.old input.now).bytes }
     ensures used_after { used.new ≡ (offered_in state.old used.old input.now).used }
 {
-    let x = in_place::offer(state, used, input);
-    tell(x, details)
+    tell(in_place::offer(state, used, input), details)
 }
 
 // The same without the checks: for a history that was checked before.
@@ -45,8 +40,7 @@ pub fn keystate_fold(state: &mut [u8], used: &mut usize, input: &[u8], details: 
     ensures state_after { state.new ≡ (folded_in state.old used.old input.now).bytes }
     ensures used_after { used.new ≡ (folded_in state.old used.old input.now).used }
 {
-    let x = in_place::fold(state, used, input);
-    tell(x, details)
+    tell(in_place::fold(state, used, input), details)
 }
 
 // `state` is the used bytes alone.
@@ -54,45 +48,26 @@ pub fn keystate_ask(state: &[u8], details: &mut [u64; 4]) -> u8
     ensures value { result ≡ (asked state.now).number }
     ensures details_after { details.new ≡ words (asked state.now) }
 {
-    let x = in_place::ask(state);
-    tell(x, details)
+    tell(in_place::ask(state), details)
 }
 
 // "Otherwise the length leads to the next record, refused or not."
+#[tactic(auto, unfolding(crate::specs::Calls::length_in))]
 pub fn keystate_length(input: &[u8]) -> usize
     ensures { result ≡ length_in input.now }
 {
     found::length(input)
 }
 
-fn no_answer(which: u8) -> Attained
-    ensures { result ≡ attained which false }
+#[tactic(auto, using(crate::proofs::Laws::alone))]
+fn attainable_in(s: &[u8], keys: usize) -> Result<bool, Refusal>
+    ensures { attained_as result ≡ attainable_in s.now keys }
 {
-    Attained {
-        number: which,
-        yes: false,
+    let (m, end) = threshold_field::scan(s, 0)?;
+    if end != s.len() {
+        return Err(Refusal::BadField);
     }
-}
-
-fn attainable_in(s: &[u8], keys: usize) -> Attained
-    ensures { result ≡ attainable_in s.now keys }
-{
-    match threshold_field::scan(s, 0) {
-        Marked::Of(m, end) => {
-            if end != s.len() {
-                return no_answer(3);
-            }
-            let t = threshold_field::copy(s, m);
-            attainable::attainable(t, keys)
-        }
-        Marked::No(n) => no_answer(n),
-    }
-}
-
-fn flag(b: bool) -> u8
-    ensures { result ≡ flag_byte b }
-{
-    if b { 1 } else { 0 }
+    attainable::attainable(threshold_field::copy(s, m), keys)
 }
 
 // `yes` becomes 1 or 0; 0 where the number is not 0.
@@ -100,7 +75,14 @@ pub fn keystate_attainable(threshold: &[u8], keys: usize, yes: &mut u8) -> u8
     ensures value { result ≡ (attainable_in threshold.now keys).number }
     ensures yes_after { yes.new ≡ flag_byte (attainable_in threshold.now keys).yes }
 {
-    let x = attainable_in(threshold, keys);
-    *yes = flag(x.yes);
-    x.number
+    match attainable_in(threshold, keys) {
+        Ok(is) => {
+            *yes = u8::from(is);
+            0
+        }
+        Err(r) => {
+            *yes = 0;
+            Answer::from(r).number
+        }
+    }
 }

@@ -18,16 +18,9 @@ fn count_in(w: Walked, x: Answer) -> Walked
     requires offered_bound { w.offered + 1 < 2 ^ 64 }
     ensures { result ≡ counted_in w x }
 {
-    let offered = w.offered + 1;
-    if x.number != 0 {
-        return Walked {
-            accepted: w.accepted,
-            offered,
-        };
-    }
     Walked {
-        accepted: w.accepted + 1,
-        offered,
+        accepted: w.accepted + usize::from(x.number == 0),
+        offered: w.offered + 1,
     }
 }
 
@@ -36,16 +29,16 @@ pub fn walk(state: &mut [u8], used: &mut usize, s: &[u8]) -> Walked
     ensures state_after { state.new ≡ (end_in (lent state.old used.old) s.now).bytes }
     ensures used_after { used.new ≡ (end_in (lent state.old used.old) s.now).used }
 {
-    let len = s.len();
     let mut w = Walked {
         accepted: 0,
         offered: 0,
     };
-    let mut at: usize = 0;
-    while at < len {
-        let x = in_place::offer(state, used, &s[at..len]);
+    let mut at = 0;
+    // stays a while: each record's own length says where the next one starts
+    while at < s.len() {
+        let x = in_place::offer(state, used, &s[at..]);
         w = count_in(w, x);
-        at = at + found::length(&s[at..len]);
+        at += found::length(&s[at..]);
     }
     w
 }
