@@ -23,6 +23,7 @@ use Rattle.config.specs.Config.{is_trait}
 use Rattle.threshold.specs.Threshold as threshold
 use Rattle.format.specs.Parse.{Parse, got, bad, bind, byte_at, be_from, num_at}
 use Rattle.format.specs.Fields.{sn_at, flag_at}
+use Rattle.cursor.specs.declared.Listing.{Listing}
 use Rattle.cursor.specs.Spans.{runs, span_at, list_of, many_of}
 use Rattle.cursor.proofs.Laws.{be_more, raw_got, list_length, many_got}
 use Rattle.field.specs.Field.{place_at, trait_place_at, items_place_at, config_place_at, byte_of, item_of, items_of, config_of}
@@ -215,11 +216,11 @@ module _ (s : List ℕ) (bytes : Bytes s) where
 
 -- ---- lists
 -- a count, and where the values lie
-record Spanned (s : List ℕ) (w max at : ℕ) (m : ℕ × ℕ) (n : ℕ) : Type 0 where
-  count : Byte s at m.0 m.1
-  few : m.0 ≤ max
-  ends : n ≡ m.1 + m.0 * w
-  within : m.1 + m.0 * w ≤ length s
+record Spanned (s : List ℕ) (w max at : ℕ) (m : Listing) (n : ℕ) : Type 0 where
+  count : Byte s at m.count m.first
+  few : m.count ≤ max
+  ends : n ≡ m.first + m.count * w
+  within : m.first + m.count * w ≤ length s
 
 module _ (s : List ℕ) (f : ℕ → Parse ℕ) (w : ℕ) (h : (p : ℕ) → Ran (Lies s w p) (f p)) where
   abbrev Reach : ℕ → ℕ → Unit {0} → ℕ → Type 0
@@ -245,34 +246,34 @@ module _ (s : List ℕ) (f : ℕ → Parse ℕ) (w : ℕ) (h : (p : ℕ) → Ran
       ran_bind (Reach n p) (Spanned s w max at) (runs f n p) _ (runs_ran n p (omega arith))
       (λ u q r. record { count = b; few = leb-true n max e; ends = r.0; within = r.1 })))
 
-abbrev pub Listed : List ℕ → ℕ → ℕ × ℕ → ℕ → Type 0
-Listed s at m n = (m.1 ≡ at + 1) × Run s at n (items_bytes (items_of s m.0 m.1))
+abbrev pub Listed : List ℕ → ℕ → Listing → ℕ → Type 0
+Listed s at m n = (m.first ≡ at + 1) × Run s at n (items_bytes (items_of s m.count m.first))
 
-items_run : (s : List ℕ) (at : ℕ) (m : ℕ × ℕ) (n : ℕ) → Spanned s 33 16 at m n → Listed s at m n
+items_run : (s : List ℕ) (at : ℕ) (m : Listing) (n : ℕ) → Spanned s 33 16 at m n → Listed s at m n
 unfolding items_bytes items_of
 items_run s at m n g =
-    let xs = list_of (item_of s) 33 m.0 m.1 in
-    let l : length xs ≡ m.0 = list_length (item_of s) 33 m.0 m.1 in
+    let xs = list_of (item_of s) 33 m.count m.first in
+    let l : length xs ≡ m.count = list_length (item_of s) 33 m.count m.first in
     let u : take (length xs) (padded 16 zero_item xs) ≡ xs = padded-used zero_item 16 xs in (
       g.count.1.0,
-      rw (many_got (item_of s) 33 16 s m.0 m.1 g.few g.within, u, l, g.ends)
-          (run_then s at m.1 (m.1 + m.0 * 33) (m.0 ∷ []) (each item_bytes xs) (byte-run s at m.0 m.1 g.count) (run-each s item_bytes (item_of s) 33 (run_item s) m.0 m.1 g.within)),
+      rw (many_got (item_of s) 33 16 s m.count m.first g.few g.within, u, l, g.ends)
+          (run_then s at m.first (m.first + m.count * 33) (m.count ∷ []) (each item_bytes xs) (byte-run s at m.count m.first g.count) (run-each s item_bytes (item_of s) 33 (run_item s) m.count m.first g.within)),
     )
 
 pub items_ran : (k : Kind) (s : List ℕ) (at : ℕ) → Ran (Listed s at) (items_place_at k s at)
 items_ran k s at = ran_weaker (Spanned s 33 16 at) (Listed s at) (items_place_at k s at) (items_run s at) (span_ran s (place_at k s) 33 (place_lies k s) 16 at)
 
-abbrev pub Traits : List ℕ → ℕ → ℕ × ℕ → ℕ → Type 0
-Traits s at m n = Run s at n (config_bytes (config_of s m.0 m.1))
+abbrev pub Traits : List ℕ → ℕ → Listing → ℕ → Type 0
+Traits s at m n = Run s at n (config_bytes (config_of s m.count m.first))
 
-config_run : (s : List ℕ) (at : ℕ) (m : ℕ × ℕ) (n : ℕ) → Spanned s 1 8 at m n → Traits s at m n
+config_run : (s : List ℕ) (at : ℕ) (m : Listing) (n : ℕ) → Spanned s 1 8 at m n → Traits s at m n
 unfolding config_bytes counted config_of
 config_run s at m n g =
-    let xs = list_of (byte_of s) 1 m.0 m.1 in
-    let l : length xs ≡ m.0 = list_length (byte_of s) 1 m.0 m.1 in
+    let xs = list_of (byte_of s) 1 m.count m.first in
+    let l : length xs ≡ m.count = list_length (byte_of s) 1 m.count m.first in
     let u : take (length xs) (padded 8 0 xs) ≡ xs = padded-used 0 8 xs in
-    rw (many_got (byte_of s) 1 8 s m.0 m.1 g.few g.within, u, l, g.ends)
-    (run_then s at m.1 (m.1 + m.0 * 1) (m.0 ∷ []) xs (byte-run s at m.0 m.1 g.count) (run-bytes s m.0 m.1 g.within))
+    rw (many_got (byte_of s) 1 8 s m.count m.first g.few g.within, u, l, g.ends)
+    (run_then s at m.first (m.first + m.count * 1) (m.count ∷ []) xs (byte-run s at m.count m.first g.count) (run-bytes s m.count m.first g.within))
 
 pub config_ran : (s : List ℕ) (at : ℕ) → Ran (Traits s at) (config_place_at s at)
 config_ran s at = ran_weaker (Spanned s 1 8 at) (Traits s at) (config_place_at s at) (config_run s at) (span_ran s (trait_place_at s) 1 (trait_lies s) 8 at)

@@ -47,11 +47,11 @@ module _ (s : List ℕ) (at : ℕ) where
   pub place_bytes : (k : Kind) (p n : ℕ) → place_at k s at ≡ got p n → (p ≡ at) × Run s at n (item_bytes (item_of s p))
   place_bytes k p n e = let h = ran_got (Place s at) (place_at k s at) p n e (place_ran k s at) in (h.0, h.1.1)
 
-  pub items_bytes_lem : (k : Kind) (c f n : ℕ) → items_place_at k s at ≡ got (c, f) n → (f ≡ at + 1) × Run s at n (items_bytes (items_of s c f))
-  items_bytes_lem k c f n e = ran_got (Listed s at) (items_place_at k s at) (c, f) n e (items_ran k s at)
+  pub items_bytes_lem : (k : Kind) (c f n : ℕ) → items_place_at k s at ≡ got (record { count = c; first = f }) n → (f ≡ at + 1) × Run s at n (items_bytes (items_of s c f))
+  items_bytes_lem k c f n e = ran_got (Listed s at) (items_place_at k s at) (record { count = c; first = f }) n e (items_ran k s at)
 
-  pub config_bytes_lem : (c f n : ℕ) → config_place_at s at ≡ got (c, f) n → Run s at n (config_bytes (config_of s c f))
-  config_bytes_lem c f n e = ran_got (Traits s at) (config_place_at s at) (c, f) n e (config_ran s at)
+  pub config_bytes_lem : (c f n : ℕ) → config_place_at s at ≡ got (record { count = c; first = f }) n → Run s at n (config_bytes (config_of s c f))
+  config_bytes_lem c f n e = ran_got (Traits s at) (config_place_at s at) (record { count = c; first = f }) n e (config_ran s at)
 
   pub flag-bytes : (b : Bool) (n : ℕ) → flag_at s at ≡ got b n → Run s at n (flag_byte b ∷ [])
   flag-bytes b n e = (ran_got (Flag s at) (flag_at s at) b n e (flag_ran s at)).1

@@ -6,8 +6,7 @@ use Prim.Native.Nat.{ℕ, ◌+◌}
 use Rattle.lists.specs.Lists.{pick}
 use Rattle.lists.proofs.Facts.{clash}
 use Rattle.number.specs.declared.Number.{Number}
-use Rattle.number.specs.declared.Successor.{Successor}
-use Rattle.number.specs.declared.Successor.TheVariants.{Of, Last}
+use Rattle.std.specs.Prelude.{Option, Some, None}
 use Rattle.number.specs.Number.{small, value, same_number, next_of}
 use Rattle.number.proofs.Laws.{same_number_lem, next-value}
 use Rattle.answer.specs.declared.Answer.{Answer}
@@ -117,13 +116,13 @@ fold_same h e p =
 abbrev pub expects : Holder → ℕ
 expects h = pick (is_held h) (value h.state.sn + 1) 0
 
-follows_next : (n : Successor) (m : Number) → passes (follows n m) ≡ true → n ≡ Of m
-follows_next (Of k) m p = by_test (same_number k m) refl p
+follows_next : (n : Option Number) (m : Number) → passes (follows n m) ≡ true → n ≡ Some m
+follows_next (Some k) m p = by_test (same_number k m) refl p
   where
-    by_test : (t : Bool) → same_number k m ≡ t → passes (pick t accepted (record { number = 35; a = k; b = m })) ≡ true → Of k ≡ Of m
-    by_test true e q = ap Of (same_number_lem k m e)
+    by_test : (t : Bool) → same_number k m ≡ t → passes (pick t accepted (record { number = 35; a = k; b = m })) ≡ true → Some k ≡ Some m
+    by_test true e q = ap Some (same_number_lem k m e)
     by_test false e q = clash (sym q)
-follows_next Last m p = clash (sym p)
+follows_next None m p = clash (sym p)
 
 chains-next : (s : KeyState) (h : Head) → passes (chains s h) ≡ true → value h.sn ≡ value s.sn + 1
 unfolding chains_onto

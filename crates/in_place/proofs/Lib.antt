@@ -1,6 +1,7 @@
-pub mod Held
-pub mod Folds
+pub mod Plain
 pub mod Written
-pub mod Answers
+pub mod Held
 pub mod Parts
+pub mod Answers
+pub mod Folds
 pub mod Theorems

@@ -32,7 +32,7 @@ use Rattle.parts.specs.Parts.{head_of, body_of}
 use Rattle.record.specs.declared.EventMarks.{EventMarks}
 use Rattle.record.specs.declared.StateMarks.{StateMarks}
 use Rattle.record.specs.Marks.{inception_places, rotation_places, interaction_places, snapshot_places, state_of, event_of}
-use Rattle.record.proofs.Laws.{inception-value, rotation-value, interaction-value, snapshot_value}
+use Rattle.record.proofs.Laws.{inception_value, rotation_value, interaction_value, snapshot_value}
 use Rattle.canonical.specs.Bytes.{Bytes}
 use Rattle.resume.proofs.Decoded.{bytes_drop}
 use Rattle.resume.proofs.Theorems.{Sound, sound_snapshot}
@@ -57,15 +57,15 @@ small_bytes (b ∷ s) f = (f 0, small_bytes s (λ i. f (suc i)))
 module _ (s : List ℕ) where
   content_inception : (m : EventMarks) → Got (inception_places s 0) m → content_of 0x4943 s ≡ event (event_of Inception s m)
   unfolding content_of
-  content_inception m g = rw (← inception-value s 0, g.is)
+  content_inception m g = rw (← inception_value s 0, g.is)
 
   content_rotation : (m : EventMarks) → Got (rotation_places s 0) m → content_of 0x524F s ≡ event (event_of Rotation s m)
   unfolding content_of
-  content_rotation m g = rw (← rotation-value s 0, g.is)
+  content_rotation m g = rw (← rotation_value s 0, g.is)
 
   content_interaction : (m : EventMarks) → Got (interaction_places s 0) m → content_of 0x4958 s ≡ event (event_of Interaction s m)
   unfolding content_of
-  content_interaction m g = rw (← interaction-value s 0, g.is)
+  content_interaction m g = rw (← interaction_value s 0, g.is)
 
   content_snapshot : (m : StateMarks) → Got (snapshot_places s 0) m → content_of 0x4B53 s ≡ snapshot (state_of s m)
   unfolding content_of
@@ -125,10 +125,10 @@ module _ (buf : List ℕ) (used : ℕ) (s : KeyState) (shape : state_shape s ≡
 -- ---- an inception: the runs are the record's own
 module _ (buf : List ℕ) (used : ℕ) (s : List ℕ) (body : Body s) (r : Left) (x : Loose) where
   module _ (m : EventMarks) (g : Got (inception_places s 0) m) where
-    pub begun-settled : x ≡ loose_of (genesis (head_of s m.head) (body_of s m.body))
+    pub begun_settled : x ≡ loose_of (genesis (head_of s m.head) (body_of s m.body))
         → r ≡ after_saving used accepted (assembled x (take (82 - 33) (drop 33 s)) (take (m.body.additions.first - 1 - 82) (drop 82 s)) (take (82 - 33) (drop 33 s)) buf)
         → r ≡ settled_in buf used (took (genesis (head_of s m.head) (body_of s m.body)))
-    begun-settled ex er =
+    begun_settled ex er =
         let p = inception_point s (small_bytes s body.small) m g.next g.is in
         let q = inception-signers s (small_bytes s body.small) m g.next g.is in
         let n : length (take 49 (drop 33 s)) ≤ 49 = simp length-take (omega arith) in
@@ -140,10 +140,10 @@ module _ (buf : List ℕ) (used : ℕ) (s : List ℕ) (body : Body s) (r : Left)
         p.is q.is p.is n n (short-run 82 (m.body.additions.first - 1 - 82) s body.long) x ex r er
 
   module _ (m : StateMarks) (g : Got (snapshot_places s 0) m) where
-    pub taken-settled : x ≡ loose_of (state_of s m)
+    pub taken_settled : x ≡ loose_of (state_of s m)
         → r ≡ after_saving used accepted (assembled x (take (82 - 33) (drop 33 s)) (take (m.body.additions.first - 1 - 83) (drop 83 s)) (take (length s - (length s - 49)) (drop (length s - 49) s)) buf)
         → r ≡ settled_in buf used (took (state_of s m))
-    taken-settled ex er =
+    taken_settled ex er =
         let p = snapshot_point s (small_bytes s body.small) m g.next g.is in
         let q = snapshot_signers s (small_bytes s body.small) m g.next g.is in
         let l = snapshot_last s (small_bytes s body.small) m g.next g.is in
@@ -246,9 +246,9 @@ module _ (buf : List ℕ) (used : ℕ) (m : StateMarks) (k : Keeps buf used m) w
     stepped-used : length (encoded (stepped S H)) ≡ used
     stepped-used = stepped-length S H old_point new_point ∙ ap (λ (l : List ℕ). length l) state_bytes ∙ used-long
 
-    pub stepped-settled : left accepted (pointed (take (82 - 33) (drop 33 s)) buf) used ≡ settled_in buf used (took (stepped S H))
+    pub stepped_settled : left accepted (pointed (take (82 - 33) (drop 33 s)) buf) used ≡ settled_in buf used (took (stepped S H))
     unfolding settled_in placed
-    stepped-settled =
+    stepped_settled =
         rw (saved-placed (stepped S H) buf (stepped-shape S (event_of Interaction s e) state_shape_lem (interaction-shape s e g)), stepped-used, le-leb used (length buf) k.within, stepped-over)
 
   -- ---- a rotation: its runs, with the new list
@@ -258,10 +258,10 @@ module _ (buf : List ℕ) (used : ℕ) (m : StateMarks) (k : Keeps buf used m) w
       (r : Left)
       (x : Loose)
     where
-      pub rolled-settled : x ≡ loose_of (rotated (state_at buf used m) (head_of s e.head) (body_of s e.body) list)
+      pub rolled_settled : x ≡ loose_of (rotated (state_at buf used m) (head_of s e.head) (body_of s e.body) list)
           → r ≡ after_saving used accepted (assembled x (take (82 - 33) (drop 33 s)) (take (e.body.additions.first - 1 - 115) (drop 115 s)) (take (82 - 33) (drop 33 s)) buf)
           → r ≡ settled_in buf used (took (rotated (state_at buf used m) (head_of s e.head) (body_of s e.body) list))
-      rolled-settled ex er =
+      rolled_settled ex er =
           let p = rotation_point s (small_bytes s body.small) e g.next g.is in
           let q = rotation-signers s (small_bytes s body.small) e g.next g.is in
           let n : length (take 49 (drop 33 s)) ≤ 49 = simp length-take (omega arith) in

@@ -1,15 +1,14 @@
 -- Steps on the way to what a call leaves, where the state lies in the buffer's bytes. proofs/Answers and proofs/Folds have that they lead to Calls.
-use Rattle.std.specs.Prelude.{ℕ, ◌≤◌, List, ltb, length, take, drop}
+use Rattle.std.specs.Prelude.{ℕ, ◌≤◌, List, ltb, eqb, length, take, drop}
 use Rattle.lists.specs.Lists.{pick}
 use Rattle.answer.specs.declared.Answer.{Answer}
-use Rattle.answer.specs.Answer.{accepted}
+use Rattle.answer.specs.Answer.{accepted, refused}
 use Rattle.state.specs.declared.KeyState.{KeyState}
 use Rattle.state.specs.State.{holding}
 use Rattle.ingest.specs.declared.Offered.{Offered}
 use Rattle.record.specs.declared.StateMarks.{StateMarks}
 use Rattle.record.specs.Marks.{state_of}
-use Rattle.found.specs.declared.Held.{Held}
-use Rattle.found.specs.declared.Held.TheVariants.{Of, Nothing, No}
+use Rattle.found.specs.Kept.{Kept}
 use Rattle.found.specs.Found.{Whole, Small}
 use Rattle.in_place.specs.Calls.{Left}
 
@@ -40,7 +39,5 @@ abbrev pub took : KeyState → Offered
 took s = record { answer = accepted; holder = holding s }
 
 -- what a record that is not read gets: bytes that hold no state come before it
-abbrev pub instead_of : Held → ℕ → ℕ
-instead_of (Of m) n = n
-instead_of Nothing n = n
-instead_of (No k) n = k
+abbrev pub instead_of : Kept → Answer → Answer
+instead_of k x = pick (eqb k.number 0) x (refused k.number 0 0)

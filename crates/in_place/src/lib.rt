@@ -1,64 +1,57 @@
 // Records offered to a state, or folded into it, in place: the state stays the bytes that it lies in, and no state is made by value.
 #![tactic(auto)]
 
-ghost use Rattle.std.specs.Prelude.{◌≡◌, Bool, ◌+◌, ◌-◌, ◌≤◌, length, take, drop};
+ghost use Rattle.std.specs.Prelude.{◌≡◌, true, ◌+◌, ◌-◌, ◌≤◌, length, take, drop};
 ghost use Rattle.lists.specs.Lists.{pick};
 ghost use Rattle.answer.specs.Answer.{accepted, refused};
+ghost use Rattle.answer.specs.Refusal.{answer_of, answered};
 ghost use Rattle.items.specs.Items.{packed};
 ghost use Rattle.event.specs.declared.Ilk.TheVariants.{Inception, Rotation, Interaction};
 ghost use Rattle.state.specs.State.{holding, genesis, rotated, stepped};
 ghost use Rattle.empty.specs.Empty.{nothing};
 ghost use Rattle.rules.specs.Rules.{new_witnesses, changed};
 ghost use Rattle.ingest.specs.Judgement.{rotates, interacts};
-ghost use Rattle.member_set.specs.Members.{change_of};
-ghost use Rattle.layout.specs.Records.{content_of, first_of};
+ghost use Rattle.member_set.specs.Members.{change_of, change_as};
+ghost use Rattle.layout.specs.Records.{content_of};
 ghost use Rattle.parts.specs.Parts.{head_of, body_of};
 ghost use Rattle.record.specs.Marks.{inception_places, rotation_places, interaction_places, snapshot_places, state_of, event_of};
 ghost use Rattle.receive.specs.Judged.{judged, content_judged};
 ghost use Rattle.fold_record.specs.Steps.{fold_of, content_folded};
 ghost use Rattle.snapshot.specs.Assembled.{loose_of, assembled};
-ghost use Rattle.found.specs.Found.{Got, kept_is, Framed, Room};
+ghost use Rattle.found.specs.Found.{Got};
+ghost use Rattle.found.specs.Kept.{kept_in};
 ghost use Rattle.in_place.specs.Calls.{after_saving, settled_in, on_state, body_offered_in, offered_in, body_folded_in, folded_in, asked};
 ghost use Rattle.in_place.specs.Steps.{Body, state_at, Keeps, left, took, instead_of, deciding};
 
-use answer::Answer;
+use answer::{Answer, Refusal};
 use authority::Witnessing;
-use found::{First, Held, Read};
+use found::Content;
 use items::Items;
-use member_set::Change;
 use record::{EventMarks, StateMarks};
 use snapshot::Loose;
 
 // The longest body of a record has 10,085 bytes (decoded, `first-bytes`).
 const DECIDING: usize = 10086;
 
+// The mark of a snapshot: its two letters as a big-endian number.
+const KS: u16 = 0x4B53;
+
 // ---- The next state, but for the runs of bytes that it takes over
 
 fn begun(s: &[u8], m: EventMarks) -> Loose
     ensures { result ≡ loose_of (genesis (head_of s.now m.head) (body_of s.now m.body)) }
 {
-    let h = m.head;
-    let b = m.body;
-    let signers = b.signers;
-    let coming = signers.commitment;
-    let next = coming.items;
-    let added = b.additions;
-    let traits = b.config;
-    let prefix = field::copy_item(s, h.prefix);
-    let witnesses = field::copy_items(s, added.count, added.first);
-    let config = field::copy_config(s, traits.count, traits.first);
-    let digests = field::count_items(s, next.count, next.first);
-    let transferable = state::can_move(prefix.code, digests);
-    let witnessing = Witnessing {
-        witnesses,
-        toad: b.toad,
-    };
+    let prefix = field::copy_item(s, m.head.prefix);
+    let next = field::count_items(s, m.body.signers.commitment.items);
     Loose {
         prefix,
         latest: 0,
-        witnessing,
-        config,
-        transferable,
+        witnessing: Witnessing {
+            witnesses: field::copy_items(s, m.body.additions),
+            toad: m.body.toad,
+        },
+        config: field::copy_config(s, m.body.config),
+        transferable: state::can_move(prefix.code, next),
     }
 }
 
@@ -66,55 +59,31 @@ fn begun(s: &[u8], m: EventMarks) -> Loose
 fn rolled(st: &[u8], sm: StateMarks, s: &[u8], m: EventMarks, list: Items) -> Loose
     ensures { result ≡ loose_of (rotated (state_of st.now sm) (head_of s.now m.head) (body_of s.now m.body) list) }
 {
-    let old = sm.head;
-    let held = sm.body;
-    let traits = held.config;
-    let last = sm.last;
-    let b = m.body;
-    let signers = b.signers;
-    let coming = signers.commitment;
-    let next = coming.items;
-    let prefix = field::copy_item(st, old.prefix);
-    let config = field::copy_config(st, traits.count, traits.first);
-    let transferable = if field::count_items(s, next.count, next.first) == 0 {
-        false
-    } else {
-        last.transferable
-    };
-    let witnessing = Witnessing {
-        witnesses: list,
-        toad: b.toad,
-    };
+    let next = field::count_items(s, m.body.signers.commitment.items);
     Loose {
-        prefix,
+        prefix: field::copy_item(st, sm.head.prefix),
         latest: 1,
-        witnessing,
-        config,
-        transferable,
+        witnessing: Witnessing {
+            witnesses: list,
+            toad: m.body.toad,
+        },
+        config: field::copy_config(st, sm.body.config),
+        transferable: next != 0 && sm.last.transferable,
     }
 }
 
 fn reread(s: &[u8], m: StateMarks) -> Loose
     ensures { result ≡ loose_of (state_of s.now m) }
 {
-    let h = m.head;
-    let b = m.body;
-    let last = m.last;
-    let added = b.additions;
-    let traits = b.config;
-    let prefix = field::copy_item(s, h.prefix);
-    let witnesses = field::copy_items(s, added.count, added.first);
-    let config = field::copy_config(s, traits.count, traits.first);
-    let witnessing = Witnessing {
-        witnesses,
-        toad: b.toad,
-    };
     Loose {
-        prefix,
+        prefix: field::copy_item(s, m.head.prefix),
         latest: m.latest,
-        witnessing,
-        config,
-        transferable: last.transferable,
+        witnessing: Witnessing {
+            witnesses: field::copy_items(s, m.body.additions),
+            toad: m.body.toad,
+        },
+        config: field::copy_config(s, m.body.config),
+        transferable: m.last.transferable,
     }
 }
 
@@ -127,31 +96,27 @@ fn settle(
     last: &[u8],
     state: &mut [u8],
     used: &mut usize,
-) -> Answer
-    ensures { left result state.new used.new ≡ after_saving used.old accepted (assembled x point.now signers.now last.now state.old) }
+) -> Result<(), Refusal>
+    ensures { left (answered result) state.new used.new ≡ after_saving used.old accepted (assembled x point.now signers.now last.now state.old) }
 {
-    let y = snapshot::assemble(x, point, signers, last, state);
-    if y.number != 0 {
-        return y;
-    }
-    let a = y.a;
-    *used = a.low as usize;
-    answer::accept()
+    let size = snapshot::assemble(x, point, signers, last, state)?;
+    *used = size;
+    Ok(())
 }
 
 // "IC starts afresh, even over a state": where the checked path comes here, the event's own number is 0.
-fn begin(state: &mut [u8], used: &mut usize, s: &[u8], m: EventMarks) -> Answer
+#[tactic(auto, using(crate::proofs::Parts::inception_runs, crate::proofs::Written::begun_settled))]
+fn begin(state: &mut [u8], used: &mut usize, s: &[u8], m: EventMarks) -> Result<(), Refusal>
     requires got { Got (inception_places s.now 0) m }
     requires body { Body s.now }
-    ensures { left result state.new used.new ≡ settled_in state.old used.old (took (genesis (head_of s.now m.head) (body_of s.now m.body))) }
+    ensures { left (answered result) state.new used.new ≡ settled_in state.old used.old (took (genesis (head_of s.now m.head) (body_of s.now m.body))) }
 {
     let x = begun(s, m);
-    let b = m.body;
-    let added = b.additions;
-    let end = added.first - 1;
+    let end = m.body.additions.first - 1;
     settle(x, &s[33..82], &s[82..end], &s[33..82], state, used)
 }
 
+#[tactic(auto, using(crate::proofs::Held::run_4))]
 fn rolled_in(
     state: &[u8],
     used: usize,
@@ -166,6 +131,7 @@ fn rolled_in(
     rolled(&state[4..used], sm, s, m, list)
 }
 
+#[tactic(auto, using(crate::proofs::Parts::rotation_runs, crate::proofs::Written::rolled_settled))]
 fn roll(
     state: &mut [u8],
     used: &mut usize,
@@ -173,200 +139,203 @@ fn roll(
     s: &[u8],
     m: EventMarks,
     list: Items,
-) -> Answer
+) -> Result<(), Refusal>
     requires keeps { Keeps state.old used.old sm }
     requires got { Got (rotation_places s.now 0) m }
     requires body { Body s.now }
     requires list_value { list ≡ packed (new_witnesses (state_at state.old used.old sm) (body_of s.now m.body)) }
     requires count_bound { list.count ≤ 16 }
-    ensures { left result state.new used.new ≡ settled_in state.old used.old (took (rotated (state_at state.old used.old sm) (head_of s.now m.head) (body_of s.now m.body) list)) }
+    ensures { left (answered result) state.new used.new ≡ settled_in state.old used.old (took (rotated (state_at state.old used.old sm) (head_of s.now m.head) (body_of s.now m.body) list)) }
 {
-    let n = *used;
-    let x = rolled_in(state, n, sm, s, m, list);
-    let b = m.body;
-    let added = b.additions;
-    let end = added.first - 1;
+    let x = rolled_in(state, *used, sm, s, m, list);
+    let end = m.body.additions.first - 1;
     settle(x, &s[33..82], &s[115..end], &s[33..82], state, used)
 }
 
 // "Empty holder: KS is taken"
-fn take_in(state: &mut [u8], used: &mut usize, s: &[u8], m: StateMarks) -> Answer
+#[tactic(auto, using(crate::proofs::Parts::snapshot_runs, crate::proofs::Written::taken_settled))]
+fn take_in(state: &mut [u8], used: &mut usize, s: &[u8], m: StateMarks) -> Result<(), Refusal>
     requires got { Got (snapshot_places s.now 0) m }
     requires body { Body s.now }
-    ensures { left result state.new used.new ≡ settled_in state.old used.old (took (state_of s.now m)) }
+    ensures { left (answered result) state.new used.new ≡ settled_in state.old used.old (took (state_of s.now m)) }
 {
     let x = reread(s, m);
-    let b = m.body;
-    let added = b.additions;
-    let end = added.first - 1;
-    let len = s.len();
-    let from = len - 49;
-    settle(x, &s[33..82], &s[83..end], &s[from..len], state, used)
+    let end = m.body.additions.first - 1;
+    let from = s.len() - 49;
+    settle(x, &s[33..82], &s[83..end], &s[from..], state, used)
 }
 
 // Only the pointer moves, within the bytes that are used.
-fn step(state: &mut [u8], used: usize, sm: StateMarks, s: &[u8], m: EventMarks) -> Answer
+#[tactic(auto, using(crate::proofs::Parts::interaction_room, crate::proofs::Written::stepped_settled))]
+fn step(state: &mut [u8], used: usize, sm: StateMarks, s: &[u8], m: EventMarks)
     requires keeps { Keeps state.old used sm }
     requires got { Got (interaction_places s.now 0) m }
-    ensures { left result state.new used ≡ settled_in state.old used (took (stepped (state_at state.old used sm) (head_of s.now m.head))) }
+    ensures { left accepted state.new used ≡ settled_in state.old used (took (stepped (state_at state.old used sm) (head_of s.now m.head))) }
 {
     snapshot::step(&s[33..82], state);
-    answer::accept()
 }
 
 // ---- The checked path
 
 // "10 before the rest"
-fn away(live: bool, which: u8) -> Answer
-    ensures { result ≡ refused (pick live which 10) 0 0 }
+fn away(live: bool, which: Refusal) -> Refusal
+    ensures { answer_of result ≡ pick live (answer_of which) (refused 10 0 0) }
 {
     if live {
-        return answer::refuse(which, 0, 0);
+        which
+    } else {
+        Refusal::NonTransferableState
     }
-    answer::refuse(10, 0, 0)
 }
 
-fn judge_rotation(state: &[u8], used: usize, sm: StateMarks, s: &[u8], m: EventMarks) -> Change
+#[tactic(auto, using(crate::proofs::Held::run_4))]
+fn judge_rotation(
+    state: &[u8],
+    used: usize,
+    sm: StateMarks,
+    s: &[u8],
+    m: EventMarks,
+) -> Result<Items, Refusal>
     requires { Keeps state.now used sm }
-    ensures { result ≡ changed (rotates (state_at state.now used sm) (event_of Rotation s.now m)) (new_witnesses (state_at state.now used sm) (body_of s.now m.body)) }
+    ensures { change_as result ≡ changed (rotates (state_at state.now used sm) (event_of Rotation s.now m)) (new_witnesses (state_at state.now used sm) (body_of s.now m.body)) }
 {
     judge::rotate(&state[4..used], sm, s, m)
 }
 
-fn judge_interaction(state: &[u8], used: usize, sm: StateMarks, s: &[u8], m: EventMarks) -> Answer
+#[tactic(auto, using(crate::proofs::Held::run_4))]
+fn judge_interaction(
+    state: &[u8],
+    used: usize,
+    sm: StateMarks,
+    s: &[u8],
+    m: EventMarks,
+) -> Result<(), Refusal>
     requires { Keeps state.now used sm }
-    ensures { result ≡ interacts (state_at state.now used sm) (event_of Interaction s.now m) }
+    ensures { answered result ≡ interacts (state_at state.now used sm) (event_of Interaction s.now m) }
 {
     judge::interact(&state[4..used], sm, s, m)
 }
 
-fn offer_inception(state: &mut [u8], used: &mut usize, s: &[u8], m: EventMarks) -> Answer
+#[tactic(auto, using(crate::proofs::Answers::prefix_stands, crate::proofs::Answers::begins))]
+fn offer_inception(
+    state: &mut [u8],
+    used: &mut usize,
+    s: &[u8],
+    m: EventMarks,
+) -> Result<(), Refusal>
     requires got { Got (inception_places s.now 0) m }
     requires body { Body s.now }
-    ensures { left result state.new used.new ≡ settled_in state.old used.old (judged nothing (event_of Inception s.now m)) }
+    ensures { left (answered result) state.new used.new ≡ settled_in state.old used.old (judged nothing (event_of Inception s.now m)) }
 {
-    let x = judge::incept(s, m);
-    if x.number != 0 {
-        return x;
-    }
+    judge::incept(s, m)?;
     begin(state, used, s, m)
 }
 
+#[tactic(auto, using(crate::proofs::Answers::closed, crate::proofs::Answers::rotation_stands, crate::proofs::Answers::rotation_took, crate::proofs::Answers::new_list, crate::proofs::Answers::new_few))]
 fn offer_rotation(
     state: &mut [u8],
     used: &mut usize,
     sm: StateMarks,
     s: &[u8],
     m: EventMarks,
-) -> Answer
+) -> Result<(), Refusal>
     requires keeps { Keeps state.old used.old sm }
     requires got { Got (rotation_places s.now 0) m }
     requires body { Body s.now }
-    ensures { left result state.new used.new ≡ settled_in state.old used.old (judged (holding (state_at state.old used.old sm)) (event_of Rotation s.now m)) }
+    ensures { left (answered result) state.new used.new ≡ settled_in state.old used.old (judged (holding (state_at state.old used.old sm)) (event_of Rotation s.now m)) }
 {
-    let last = sm.last;
-    let live = last.transferable;
-    if !live {
-        return answer::refuse(10, 0, 0);
+    if !sm.last.transferable {
+        return Err(Refusal::NonTransferableState);
     }
-    let n = *used;
-    let change = judge_rotation(state, n, sm, s, m);
-    let x = change.answer;
-    if x.number != 0 {
-        return x;
-    }
-    let list = change.list;
+    let list = judge_rotation(state, *used, sm, s, m)?;
     roll(state, used, sm, s, m, list)
 }
 
+#[tactic(auto, using(crate::proofs::Answers::closed, crate::proofs::Answers::live_stands, crate::proofs::Answers::interaction_took))]
 fn offer_interaction(
     state: &mut [u8],
     used: usize,
     sm: StateMarks,
     s: &[u8],
     m: EventMarks,
-) -> Answer
+) -> Result<(), Refusal>
     requires keeps { Keeps state.old used sm }
     requires got { Got (interaction_places s.now 0) m }
-    ensures { left result state.new used ≡ settled_in state.old used (judged (holding (state_at state.old used sm)) (event_of Interaction s.now m)) }
+    ensures { left (answered result) state.new used ≡ settled_in state.old used (judged (holding (state_at state.old used sm)) (event_of Interaction s.now m)) }
 {
-    let last = sm.last;
-    let live = last.transferable;
-    if !live {
-        return answer::refuse(10, 0, 0);
+    if !sm.last.transferable {
+        return Err(Refusal::NonTransferableState);
     }
-    let x = judge_interaction(state, used, sm, s, m);
-    if x.number != 0 {
-        return x;
-    }
-    step(state, used, sm, s, m)
+    judge_interaction(state, used, sm, s, m)?;
+    step(state, used, sm, s, m);
+    Ok(())
 }
 
-fn offer_held(state: &mut [u8], used: &mut usize, sm: StateMarks, mark: u16, s: &[u8]) -> Answer
+#[tactic(auto, using(crate::proofs::Held::offer_unread, crate::proofs::Answers::away_left, crate::proofs::Answers::held_snapshot))]
+fn offer_held(
+    state: &mut [u8],
+    used: &mut usize,
+    sm: StateMarks,
+    mark: u16,
+    s: &[u8],
+) -> Result<(), Refusal>
     requires keeps { Keeps state.old used.old sm }
     requires body { Body s.now }
-    ensures { left result state.new used.new ≡ settled_in state.old used.old (content_judged (holding (state_at state.old used.old sm)) (content_of mark s.now)) }
+    ensures { left (answered result) state.new used.new ≡ settled_in state.old used.old (content_judged (holding (state_at state.old used.old sm)) (content_of mark s.now)) }
 {
-    let last = sm.last;
-    let live = last.transferable;
-    match found::by_mark(mark, s) {
-        Read::Inception(_) => away(live, 9),
-        Read::Rotation(m) => offer_rotation(state, used, sm, s, m),
-        Read::Interaction(m) => {
-            let n = *used;
-            offer_interaction(state, n, sm, s, m)
-        }
-        Read::DelegatedInception => away(live, 6),
-        Read::DelegatedRotation => away(live, 7),
-        Read::Snapshot(_) => answer::refuse(5, 0, 0),
-        Read::No(n) => answer::refuse(n, 0, 0),
+    let live = sm.last.transferable;
+    match found::by_mark(mark, s)? {
+        Content::Inception(_) => Err(away(live, Refusal::DuplicateInception)),
+        Content::Rotation(m) => offer_rotation(state, used, sm, s, m),
+        Content::Interaction(m) => offer_interaction(state, *used, sm, s, m),
+        Content::DelegatedInception => Err(away(live, Refusal::EvidenceRequired)),
+        Content::DelegatedRotation => Err(away(live, Refusal::DelegatorUnknown)),
+        Content::Snapshot(_) => Err(Refusal::StateHeld),
     }
 }
 
-fn offer_nothing(state: &mut [u8], used: &mut usize, mark: u16, s: &[u8]) -> Answer
+#[tactic(auto, using(crate::proofs::Held::offer_unread, crate::proofs::Answers::no_rotation, crate::proofs::Answers::no_interaction, crate::proofs::Answers::no_delegated_inception, crate::proofs::Answers::no_delegated_rotation, crate::proofs::Answers::nothing_snapshot))]
+fn offer_nothing(state: &mut [u8], used: &mut usize, mark: u16, s: &[u8]) -> Result<(), Refusal>
     requires { Body s.now }
-    ensures { left result state.new used.new ≡ settled_in state.old used.old (content_judged nothing (content_of mark s.now)) }
+    ensures { left (answered result) state.new used.new ≡ settled_in state.old used.old (content_judged nothing (content_of mark s.now)) }
 {
-    match found::by_mark(mark, s) {
-        Read::Inception(m) => offer_inception(state, used, s, m),
-        Read::Rotation(_) => answer::refuse(8, 0, 0),
-        Read::Interaction(_) => answer::refuse(8, 0, 0),
-        Read::DelegatedInception => answer::refuse(6, 0, 0),
-        Read::DelegatedRotation => answer::refuse(8, 0, 0),
-        Read::Snapshot(m) => take_in(state, used, s, m),
-        Read::No(n) => answer::refuse(n, 0, 0),
+    match found::by_mark(mark, s)? {
+        Content::Inception(m) => offer_inception(state, used, s, m),
+        Content::Rotation(_) => Err(Refusal::NotInception),
+        Content::Interaction(_) => Err(Refusal::NotInception),
+        Content::DelegatedInception => Err(Refusal::EvidenceRequired),
+        Content::DelegatedRotation => Err(Refusal::NotInception),
+        Content::Snapshot(m) => take_in(state, used, s, m),
     }
 }
 
 // A record that is not read: bytes that hold no state come before it.
-fn instead(held: Held, which: u8) -> Answer
-    ensures { result ≡ refused (instead_of held which) 0 0 }
+#[tactic(auto, using(crate::proofs::Held::instead_told, crate::proofs::Held::instead_refused))]
+fn instead(state: &[u8], used: usize, which: Refusal) -> Result<(), Refusal>
+    ensures { answered result ≡ instead_of (kept_in state.now used) (answer_of which) }
 {
-    match held {
-        Held::Of(_) => answer::refuse(which, 0, 0),
-        Held::Nothing => answer::refuse(which, 0, 0),
-        Held::No(n) => answer::refuse(n, 0, 0),
-    }
+    found::in_buffer(state, used)?;
+    Err(which)
 }
 
-fn offer_to(state: &mut [u8], used: &mut usize, held: Held, mark: u16, s: &[u8]) -> Answer
-    requires framed { Framed (take used.old state.old) held }
-    requires room { Room used.old (length state.old) held }
-    requires body { Body s.now }
-    ensures { left result state.new used.new ≡ on_state state.old used.old (λ h. content_judged h (content_of mark s.now)) (kept_is (take used.old state.old) held) }
+#[tactic(auto, using(crate::proofs::Held::offer_unkept, crate::proofs::Held::kept_told))]
+fn offer_to(state: &mut [u8], used: &mut usize, mark: u16, s: &[u8]) -> Result<(), Refusal>
+    requires { Body s.now }
+    ensures { left (answered result) state.new used.new ≡ on_state state.old used.old (λ h. content_judged h (content_of mark s.now)) (kept_in state.old used.old) }
 {
-    match held {
-        Held::Of(sm) => offer_held(state, used, sm, mark, s),
-        Held::Nothing => offer_nothing(state, used, mark, s),
-        Held::No(n) => answer::refuse(n, 0, 0),
+    match found::in_buffer(state, *used)? {
+        Some(sm) => offer_held(state, used, sm, mark, s),
+        None => offer_nothing(state, used, mark, s),
     }
 }
 
 // How much of a body is looked at: "a body past the longest legal one is decided by its first bytes".
+#[tactic(auto, using(crate::proofs::Held::enough_is, crate::proofs::Held::enough_within))]
 fn enough(len: usize) -> usize
-    ensures { result ≡ deciding len }
+    ensures result_value { result ≡ deciding len }
+    ensures within { result ≤ len }
 {
-    if len < DECIDING { len } else { DECIDING }
+    len.min(DECIDING)
 }
 
 // One record's body, by its mark, is offered to the state in the buffer: for a reader that holds a record in parts.
@@ -375,10 +344,8 @@ pub fn offer_body(state: &mut [u8], used: &mut usize, mark: u16, body: &[u8]) ->
     ensures state_after { state.new ≡ (body_offered_in state.old used.old mark body.now).bytes }
     ensures used_after { used.new ≡ (body_offered_in state.old used.old mark body.now).used }
 {
-    let n = *used;
-    let held = found::in_buffer(state, n);
     let end = enough(body.len());
-    offer_to(state, used, held, mark, &body[0..end])
+    answer::of(offer_to(state, used, mark, &body[..end]))
 }
 
 // The first record of `input` is offered to the state in the buffer; what stands behind that record is not looked at.
@@ -387,97 +354,96 @@ pub fn offer(state: &mut [u8], used: &mut usize, input: &[u8]) -> Answer
     ensures state_after { state.new ≡ (offered_in state.old used.old input.now).bytes }
     ensures used_after { used.new ≡ (offered_in state.old used.old input.now).used }
 {
-    let First::Of(mark, next) = found::first_record(input) else {
-        let n = *used;
-        let held = found::in_buffer(state, n);
-        return instead(held, 1);
+    let Some((mark, next)) = found::first_record(input) else {
+        return answer::of(instead(state, *used, Refusal::Truncated));
     };
     offer_body(state, used, mark, &input[4..next])
 }
 
 // ---- The same without the checks
 
-fn fold_list(state: &[u8], used: usize, sm: StateMarks, s: &[u8], m: EventMarks) -> Change
+#[tactic(auto, using(crate::proofs::Held::run_4))]
+fn fold_list(
+    state: &[u8],
+    used: usize,
+    sm: StateMarks,
+    s: &[u8],
+    m: EventMarks,
+) -> Result<Items, Refusal>
     requires { Keeps state.now used sm }
-    ensures { result ≡ change_of (new_witnesses (state_at state.now used sm) (body_of s.now m.body)) }
+    ensures { change_as result ≡ change_of (new_witnesses (state_at state.now used sm) (body_of s.now m.body)) }
 {
-    let held = sm.body;
-    let b = m.body;
-    let old = held.additions;
-    let added = b.additions;
-    let cut = b.removals;
-    let current = field::copy_items(&state[4..used], old.count, old.first);
-    let cuts = field::copy_items(s, cut.count, cut.first);
-    let adds = field::copy_items(s, added.count, added.first);
+    let current = field::copy_items(&state[4..used], sm.body.additions);
+    let cuts = field::copy_items(s, m.body.removals);
+    let adds = field::copy_items(s, m.body.additions);
     member_set::update(current, cuts, adds)
 }
 
+#[tactic(auto, using(crate::proofs::Folds::roll_stands, crate::proofs::Folds::roll_took, crate::proofs::Folds::list_packed, crate::proofs::Folds::list_few))]
 fn fold_rotation(
     state: &mut [u8],
     used: &mut usize,
     sm: StateMarks,
     s: &[u8],
     m: EventMarks,
-) -> Answer
+) -> Result<(), Refusal>
     requires keeps { Keeps state.old used.old sm }
     requires got { Got (rotation_places s.now 0) m }
     requires body { Body s.now }
-    ensures { left result state.new used.new ≡ settled_in state.old used.old (fold_of Rotation (holding (state_at state.old used.old sm)) (event_of Rotation s.now m)) }
+    ensures { left (answered result) state.new used.new ≡ settled_in state.old used.old (fold_of Rotation (holding (state_at state.old used.old sm)) (event_of Rotation s.now m)) }
 {
-    let n = *used;
-    let change = fold_list(state, n, sm, s, m);
-    let x = change.answer;
-    if x.number != 0 {
-        return x;
-    }
-    let list = change.list;
+    let list = fold_list(state, *used, sm, s, m)?;
     roll(state, used, sm, s, m, list)
 }
 
-fn fold_held(state: &mut [u8], used: &mut usize, sm: StateMarks, mark: u16, s: &[u8]) -> Answer
+#[tactic(auto, using(crate::proofs::Held::fold_unread, crate::proofs::Folds::fold_delegated_inception, crate::proofs::Folds::fold_delegated_rotation, crate::proofs::Folds::fold_unfit), unfolding(state::specs::State::is_held))]
+fn fold_held(
+    state: &mut [u8],
+    used: &mut usize,
+    sm: StateMarks,
+    mark: u16,
+    s: &[u8],
+) -> Result<(), Refusal>
     requires keeps { Keeps state.old used.old sm }
     requires body { Body s.now }
-    ensures { left result state.new used.new ≡ settled_in state.old used.old (content_folded (holding (state_at state.old used.old sm)) (content_of mark s.now)) }
+    ensures { left (answered result) state.new used.new ≡ settled_in state.old used.old (content_folded (holding (state_at state.old used.old sm)) (content_of mark s.now)) }
 {
-    match found::by_mark(mark, s) {
-        Read::Inception(m) => begin(state, used, s, m),
-        Read::Rotation(m) => fold_rotation(state, used, sm, s, m),
-        Read::Interaction(m) => {
-            let n = *used;
-            step(state, n, sm, s, m)
+    match found::by_mark(mark, s)? {
+        Content::Inception(m) => begin(state, used, s, m),
+        Content::Rotation(m) => fold_rotation(state, used, sm, s, m),
+        Content::Interaction(m) => {
+            step(state, *used, sm, s, m);
+            Ok(())
         }
-        Read::DelegatedInception => answer::refuse(6, 0, 0),
-        Read::DelegatedRotation => answer::refuse(6, 0, 0),
-        Read::Snapshot(_) => answer::refuse(2, 0, 0),
-        Read::No(n) => answer::refuse(n, 0, 0),
+        Content::DelegatedInception => Err(Refusal::EvidenceRequired),
+        Content::DelegatedRotation => Err(Refusal::EvidenceRequired),
+        Content::Snapshot(_) => Err(Refusal::UnknownMark),
     }
 }
 
-fn fold_nothing(state: &mut [u8], used: &mut usize, mark: u16, s: &[u8]) -> Answer
+#[tactic(auto, using(crate::proofs::Held::fold_unread, crate::proofs::Folds::fold_no_rotation, crate::proofs::Folds::fold_no_interaction, crate::proofs::Folds::fold_delegated_inception, crate::proofs::Folds::fold_delegated_rotation, crate::proofs::Folds::fold_unfit), unfolding(state::specs::State::is_held))]
+fn fold_nothing(state: &mut [u8], used: &mut usize, mark: u16, s: &[u8]) -> Result<(), Refusal>
     requires { Body s.now }
-    ensures { left result state.new used.new ≡ settled_in state.old used.old (content_folded nothing (content_of mark s.now)) }
+    ensures { left (answered result) state.new used.new ≡ settled_in state.old used.old (content_folded nothing (content_of mark s.now)) }
 {
-    match found::by_mark(mark, s) {
-        Read::Inception(m) => begin(state, used, s, m),
-        Read::Rotation(_) => answer::refuse(8, 0, 0),
-        Read::Interaction(_) => answer::refuse(8, 0, 0),
-        Read::DelegatedInception => answer::refuse(6, 0, 0),
-        Read::DelegatedRotation => answer::refuse(6, 0, 0),
-        Read::Snapshot(_) => answer::refuse(2, 0, 0),
-        Read::No(n) => answer::refuse(n, 0, 0),
+    match found::by_mark(mark, s)? {
+        Content::Inception(m) => begin(state, used, s, m),
+        Content::Rotation(_) => Err(Refusal::NotInception),
+        Content::Interaction(_) => Err(Refusal::NotInception),
+        Content::DelegatedInception => Err(Refusal::EvidenceRequired),
+        Content::DelegatedRotation => Err(Refusal::EvidenceRequired),
+        Content::Snapshot(_) => Err(Refusal::UnknownMark),
     }
 }
 
-fn fold_to(state: &mut [u8], used: &mut usize, held: Held, mark: u16, s: &[u8]) -> Answer
-    requires framed { Framed (take used.old state.old) held }
-    requires room { Room used.old (length state.old) held }
-    requires body { Body s.now }
-    ensures { left result state.new used.new ≡ on_state state.old used.old (λ h. content_folded h (content_of mark s.now)) (kept_is (take used.old state.old) held) }
+#[tactic(auto, using(crate::proofs::Held::fold_unkept, crate::proofs::Held::kept_told))]
+fn fold_to(state: &mut [u8], used: &mut usize, mark: u16, s: &[u8]) -> Result<(), Refusal>
+    requires { Body s.now }
+    ensures { left (answered result) state.new used.new ≡ on_state state.old used.old (λ h. content_folded h (content_of mark s.now)) (kept_in state.old used.old) }
 {
-    match held {
-        Held::Of(sm) => fold_held(state, used, sm, mark, s),
-        Held::Nothing => fold_nothing(state, used, mark, s),
-        Held::No(n) => answer::refuse(n, 0, 0),
+    match found::in_buffer(state, *used)? {
+        Some(sm) => fold_held(state, used, sm, mark, s),
+        None => fold_nothing(state, used, mark, s),
     }
 }
 
@@ -487,13 +453,11 @@ pub fn fold_body(state: &mut [u8], used: &mut usize, mark: u16, body: &[u8]) -> 
     ensures state_after { state.new ≡ (body_folded_in state.old used.old mark body.now).bytes }
     ensures used_after { used.new ≡ (body_folded_in state.old used.old mark body.now).used }
 {
-    let n = *used;
-    let held = found::in_buffer(state, n);
-    if mark == 0x4B53 {
-        return instead(held, 2);
+    if mark == KS {
+        return answer::of(instead(state, *used, Refusal::UnknownMark));
     }
     let end = enough(body.len());
-    fold_to(state, used, held, mark, &body[0..end])
+    answer::of(fold_to(state, used, mark, &body[..end]))
 }
 
 // For a history that was checked before.
@@ -502,26 +466,24 @@ pub fn fold(state: &mut [u8], used: &mut usize, input: &[u8]) -> Answer
     ensures state_after { state.new ≡ (folded_in state.old used.old input.now).bytes }
     ensures used_after { used.new ≡ (folded_in state.old used.old input.now).used }
 {
-    let First::Of(mark, next) = found::first_record(input) else {
-        let n = *used;
-        let held = found::in_buffer(state, n);
-        return instead(held, 1);
+    let Some((mark, next)) = found::first_record(input) else {
+        return answer::of(instead(state, *used, Refusal::Truncated));
     };
     fold_body(state, used, mark, &input[4..next])
 }
 
 // 0 with the state's number; 8 where none is held.
+#[tactic(auto, using(crate::proofs::Folds::asked_state, crate::proofs::Folds::asked_nothing, crate::proofs::Folds::asked_bad))]
 pub fn ask(state: &[u8]) -> Answer
     ensures { result ≡ asked state.now }
 {
     match found::in_bytes(state) {
-        Held::Of(m) => {
-            let head = m.head;
-            let a = head.sn;
-            let b = number::from_u64(0);
-            Answer { number: 0, a, b }
-        }
-        Held::Nothing => answer::refuse(8, 0, 0),
-        Held::No(n) => answer::refuse(n, 0, 0),
+        Ok(Some(m)) => Answer {
+            number: 0,
+            a: m.head.sn,
+            b: number::from_u64(0),
+        },
+        Ok(None) => Answer::from(Refusal::NotInception),
+        Err(r) => Answer::from(r),
     }
 }

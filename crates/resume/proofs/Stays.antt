@@ -25,8 +25,7 @@ use Rattle.items.specs.Items as items
 use Rattle.items.proofs.Laws as items-laws
 use Rattle.config.specs.Config as config
 use Rattle.threshold.specs.Threshold as threshold
-use Rattle.member_set.specs.declared.Change.{Change}
-use Rattle.member_set.specs.Members.{absent, joined, updated, change_of}
+use Rattle.member_set.specs.Members.{Change, absent, joined, updated, change_of}
 use Rattle.event.specs.declared.Ilk.{Ilk}
 use Rattle.event.specs.declared.Ilk.TheVariants.{Inception, Rotation, Interaction, DelegatedInception, DelegatedRotation}
 use Rattle.event.specs.declared.Head.{Head}

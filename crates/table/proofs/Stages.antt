@@ -11,10 +11,9 @@ use native.Mathlib.Omega.{arith}
 use lib.Dec.{eqb, leb}
 use lib.ListN.{length, drop}
 use borrow.Author.Tests.{eqb-true}
+use Rattle.std.specs.Prelude.{Option, Some, None}
 use Rattle.lists.specs.Lists.{pick, both, any, all, is_at}
 use Rattle.number.specs.declared.Number.{Number}
-use Rattle.number.specs.declared.Successor.{Successor}
-use Rattle.number.specs.declared.Successor.TheVariants.{Of, Last}
 use Rattle.number.specs.Number.{small, same_number, next_of}
 use Rattle.answer.specs.declared.Answer.{Answer}
 use Rattle.answer.specs.Answer.{refused, accepted, refuse_if, refuse_unless, first_refusal, first_fault}
@@ -31,8 +30,7 @@ use Rattle.threshold.specs.declared.Threshold.{Threshold}
 use Rattle.threshold.specs.Threshold as threshold
 use Rattle.threshold.specs.Threshold.{well_formed, at_most, satisfied}
 use Rattle.toad.specs.Toad.{witness_threshold, in_range}
-use Rattle.member_set.specs.declared.Change.{Change}
-use Rattle.member_set.specs.Members.{duplicate, transferable, repeat_from, witness_faults, change_faults, change_of, updated, absent}
+use Rattle.member_set.specs.Members.{Change, duplicate, transferable, repeat_from, witness_faults, change_faults, change_of, updated, absent}
 use Rattle.verification.specs.declared.Sigers.{Sigers}
 use Rattle.verification.specs.Verification as verification
 use Rattle.authority.specs.declared.Authority.{Authority}
@@ -230,9 +228,9 @@ module _ (Good : Answer → Type 0) (low : (n : ℕ) (a b : Number) → n ≤ 26
   change_in xs = pick_in (λ (c : Change). Good c.answer) (leb (length xs) 16) _ _ zero_in (high 38 _ _ (omega arith) (omega arith))
 
   -- ---- 33 to 36
-  follows_in : (next : Successor) (actual : Number) → Good (follows next actual)
-  follows_in (Of expected) actual = unless_in (same_number expected actual) (record { number = 35; a = expected; b = actual }) (high 35 _ _ (omega arith) (omega arith))
-  follows_in Last actual = high 34 _ _ (omega arith) (omega arith)
+  follows_in : (next : Option Number) (actual : Number) → Good (follows next actual)
+  follows_in (Some expected) actual = unless_in (same_number expected actual) (record { number = 35; a = expected; b = actual }) (high 35 _ _ (omega arith) (omega arith))
+  follows_in None actual = high 34 _ _ (omega arith) (omega arith)
 
   chains_in : (prefix : Item) (sn : Number) (said : Item) (h : Head) → Good (chains_onto prefix sn said h)
   unfolding chains_onto
