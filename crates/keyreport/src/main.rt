@@ -140,6 +140,7 @@ fn finish<W: Write>(
 }
 
 // A proved loop has to end, and nothing says that the input does. So the records are counted, up to a number that no run reaches.
+#[tactic(auto, using(crate::proofs::Laws::told_in))]
 fn run<R: Read, W: Write>(
     input: &mut R,
     output: &mut W,

@@ -1,5 +1,4 @@
 use Rattle.std.proofs.Common.{arith, refl}
-use Rattle.keyreport.proofs.Laws.{told_in}
 use Rattle.keyreport.proofs.Runs.{bytes_of, stands_there, begins_there, run_begins, run_goes_on, run_ends}
 use Rattle.keyreport.proofs.run.Goals as goal
 
@@ -9,12 +8,6 @@ loop-init g c = record {
   bytes = bytes_of c.args.state.now c.type_inv.state;
   progress = λ r. run_begins _ _ c.args.window.now c.args.state.now c.args.used.now c.begin-t.result c.begin-t.ensures r.0;
 }
-
-pub make_room-requires-clause-at_in_bounds : goal.make_room-requires-clause-at_in_bounds
-make_room-requires-clause-at_in_bounds g c =
-    let l = c.loop in
-    let h = told_in l.t c.mark_at-mark.result c.offer-answer.result l.at l.out c.tell-last.result c.tell-last.ensures.value l.invariant.room in
-    let e = c.tell-last.auto.out in omega arith
 
 pub loop-preserved : goal.loop-preserved
 loop-preserved g c =
