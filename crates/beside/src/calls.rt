@@ -11,18 +11,31 @@ use toad::Toad;
 
 // The marks of the requests.
 const AM: u16 = 0x414D;
+
 const EX: u16 = 0x4558;
+
 const SO: u16 = 0x534F;
+
 const AN: u16 = 0x414E;
+
 const AT: u16 = 0x4154;
+
 const WF: u16 = 0x5746;
+
 const WI: u16 = 0x5749;
+
 const DE: u16 = 0x4445;
+
 const ID: u16 = 0x4944;
+
 const SI: u16 = 0x5349;
+
 const OP: u16 = 0x4F50;
+
 const RE: u16 = 0x5245;
+
 const ME: u16 = 0x4D45;
+
 const SA: u16 = 0x5341;
 
 // What a call says: its answer, the number that it takes, a judgement, or yes or no. Of a bad request, one that compare never
