@@ -9,22 +9,6 @@ use std::io::Write;
 use threshold::{Short, Threshold};
 use toad::Toad;
 
-// The marks of the requests.
-const AM: u16 = 0x414D;
-const EX: u16 = 0x4558;
-const SO: u16 = 0x534F;
-const AN: u16 = 0x414E;
-const AT: u16 = 0x4154;
-const WF: u16 = 0x5746;
-const WI: u16 = 0x5749;
-const DE: u16 = 0x4445;
-const ID: u16 = 0x4944;
-const SI: u16 = 0x5349;
-const OP: u16 = 0x4F50;
-const RE: u16 = 0x5245;
-const ME: u16 = 0x4D45;
-const SA: u16 = 0x5341;
-
 // What a call says: its answer, the number that it takes, a judgement, or yes or no. Of a bad request, one that compare never
 // makes, it says nothing.
 #[derive(Clone, Copy)]
@@ -225,29 +209,34 @@ fn save(s: &[u8], out: &mut [u8]) -> Option<usize> {
     })
 }
 
-fn reply(mark: u16, s: &[u8]) -> Option<Said> {
-    match mark {
-        AM => ample(s),
-        EX => exact(s),
-        SO => satisfied(true, s),
-        AN => satisfied(false, s),
-        AT => attainable(s),
-        WF => well_formed(s),
-        WI => witnesses(s),
-        DE => deltas(s),
-        ID => identity(s),
-        SI => signatures(s),
-        OP => opening(s),
-        RE => receipts(s),
+// A request's two letters.
+fn mark(s: &[u8]) -> &[u8] {
+    read::part(s, 0, 2)
+}
+
+fn reply(s: &[u8]) -> Option<Said> {
+    match mark(s) {
+        b"AM" => ample(s),
+        b"EX" => exact(s),
+        b"SO" => satisfied(true, s),
+        b"AN" => satisfied(false, s),
+        b"AT" => attainable(s),
+        b"WF" => well_formed(s),
+        b"WI" => witnesses(s),
+        b"DE" => deltas(s),
+        b"ID" => identity(s),
+        b"SI" => signatures(s),
+        b"OP" => opening(s),
+        b"RE" => receipts(s),
         _ => None,
     }
 }
 
 fn put(s: &[u8], out: &mut [u8]) -> Option<usize> {
-    match read::mark(s) {
-        ME => members(s, out),
-        SA => save(s, out),
-        mark => Some(put_said(out, reply(mark, s)?)),
+    match mark(s) {
+        b"ME" => members(s, out),
+        b"SA" => save(s, out),
+        _ => Some(put_said(out, reply(s)?)),
     }
 }
 

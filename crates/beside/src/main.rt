@@ -17,10 +17,8 @@ use std::io;
 // Argument i is -- and a word that begins with this letter.
 fn is_flag(rt: &impl Env, i: usize, letter: u8) -> bool {
     let mut word = [0u8; 16];
-    match rt.arg(i, &mut word) {
-        Ok(n) => 3 <= n && word[2] == letter,
-        Err(_) => false,
-    }
+    rt.arg(i, &mut word)
+        .is_ok_and(|n| 3 <= n && word[2] == letter)
 }
 
 fn asked(rt: &impl Env, letter: u8) -> bool {

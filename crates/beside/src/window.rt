@@ -1,6 +1,6 @@
 // Standard input record by record. What a record says has at most 5,000 bytes, and is written before the next one is read.
-use crate::records::{Mode, Run};
 use crate::read;
+use crate::records::{Mode, Run};
 use std::io;
 use std::io::{ErrorKind, Read, Write};
 use stream::{Next, Span};

@@ -1,5 +1,5 @@
 -- Lines in the output buffer. Assumes nothing.
-use Rattle.std.proofs.Common.{◌≡◌, refl, sym, ap, ◌∙◌, List, ◌++◌, ℕ, ◌+◌, ◌≤◌, arith, append_assoc, length, take, length-append, length-take-le, take_at, le-leb}
+use Rattle.std.proofs.Common.{◌≡◌, refl, sym, ap, List, ◌++◌, ℕ, ◌+◌, ◌≤◌, arith, append_assoc, length, take, length-append, length-take-le, take_at, le-leb}
 use Rattle.answer.specs.declared.Answer.{Answer}
 use Rattle.state.specs.declared.Holder.{Holder}
 use Rattle.state.specs.State.{is_held}

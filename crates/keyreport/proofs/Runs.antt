@@ -2,6 +2,7 @@
 -- the report of the whole input. Assumes nothing.
 --     Progress           what holds at each turn
 --     bytes_of           a slice's numbers are bytes
+--     stands_there       a record that was found stands in the window; begins_there: what is left of the input begins with it
 --     run_begins         at the first turn
 --     run_goes_on        a record
 --     run_ends           the input's end

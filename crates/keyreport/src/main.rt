@@ -76,6 +76,7 @@ fn offer(state: &mut [u8], used: &mut usize, mark: u16, window: &[u8], place: Pl
     in_place::offer_body(state, used, mark, &window[place.from + 4..place.to])
 }
 
+// Counts, state, lines and place are parameters, here and below: a struct would hold two borrows, and each clause would go through it.
 #[tactic(auto, using(crate::proofs::Laws::prefix_length, crate::proofs::Laws::end_in, crate::proofs::Laws::end_behind))]
 fn end<W: Write>(
     output: &mut W,
