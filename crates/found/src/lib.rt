@@ -2,7 +2,7 @@
 #![tactic(auto)]
 
 ghost use Rattle.std.specs.Prelude.{◌≡◌, ◌+◌, ◌*◌, length, take};
-ghost use Rattle.layout.specs.Records.{content_of, first_of, next_in};
+ghost use Rattle.layout.specs.Records.{inception_at, rotation_at, interaction_at, snapshot_at, as_event, as_snapshot, content_of, first_of, next_in};
 ghost use Rattle.found.specs.Kept.{state_in, kept_in};
 ghost use Rattle.found.specs.Found.{content_is, Placed, first_is, Within, kept_is, Framed, Room};
 
@@ -33,6 +33,48 @@ const DR: u16 = 0x4452;
 
 const KS: u16 = 0x4B53;
 
+// Each scan has a function of its own, and a `match` in place of `?`, here and in in_place: a function pays at entry for the room of
+// all that it may hold, and `?` holds the marks once more.
+fn inception(s: &[u8]) -> Result<Content, Refusal>
+    ensures result_value { content_is s.now result ≡ as_event (inception_at s.now 0) }
+    ensures placed { Placed s.now result }
+{
+    match record::scan_inception(s, 0) {
+        Ok((m, _)) => Ok(Content::Inception(m)),
+        Err(r) => Err(r),
+    }
+}
+
+fn rotation(s: &[u8]) -> Result<Content, Refusal>
+    ensures result_value { content_is s.now result ≡ as_event (rotation_at s.now 0) }
+    ensures placed { Placed s.now result }
+{
+    match record::scan_rotation(s, 0) {
+        Ok((m, _)) => Ok(Content::Rotation(m)),
+        Err(r) => Err(r),
+    }
+}
+
+fn interaction(s: &[u8]) -> Result<Content, Refusal>
+    ensures result_value { content_is s.now result ≡ as_event (interaction_at s.now 0) }
+    ensures placed { Placed s.now result }
+{
+    match record::scan_interaction(s, 0) {
+        Ok((m, _)) => Ok(Content::Interaction(m)),
+        Err(r) => Err(r),
+    }
+}
+
+fn snapshot(s: &[u8]) -> Result<Content, Refusal>
+    ensures result_value { content_is s.now result ≡ as_snapshot (snapshot_at s.now 0) }
+    ensures placed { Placed s.now result }
+{
+    match record::scan_snapshot(s, 0) {
+        Ok((m, _)) => Ok(Content::Snapshot(m)),
+        Err(r) => Err(r),
+    }
+}
+
 // A body by its mark. "DI and DR delegated (body not read)"
 #[tactic(auto, unfolding(layout::specs::Records::content_of))]
 pub fn by_mark(mark: u16, s: &[u8]) -> Result<Content, Refusal>
@@ -40,24 +82,12 @@ pub fn by_mark(mark: u16, s: &[u8]) -> Result<Content, Refusal>
     ensures placed { Placed s.now result }
 {
     match mark {
-        IC => {
-            let (m, _) = record::scan_inception(s, 0)?;
-            Ok(Content::Inception(m))
-        }
-        RO => {
-            let (m, _) = record::scan_rotation(s, 0)?;
-            Ok(Content::Rotation(m))
-        }
-        IX => {
-            let (m, _) = record::scan_interaction(s, 0)?;
-            Ok(Content::Interaction(m))
-        }
+        IC => inception(s),
+        RO => rotation(s),
+        IX => interaction(s),
         DI => Ok(Content::DelegatedInception),
         DR => Ok(Content::DelegatedRotation),
-        KS => {
-            let (m, _) = record::scan_snapshot(s, 0)?;
-            Ok(Content::Snapshot(m))
-        }
+        KS => snapshot(s),
         _ => Err(Refusal::UnknownMark),
     }
 }
@@ -106,11 +136,11 @@ pub fn in_bytes(s: &[u8]) -> Result<Option<StateMarks>, Refusal>
     if mark != KS {
         return Err(Refusal::UnknownMark);
     }
-    let (m, _) = record::scan_snapshot(&s[4..next], 0)?;
-    if next != s.len() {
-        return Err(Refusal::BadField);
+    match record::scan_snapshot(&s[4..next], 0) {
+        Ok(_) if next != s.len() => Err(Refusal::BadField),
+        Ok((m, _)) => Ok(Some(m)),
+        Err(r) => Err(r),
     }
-    Ok(Some(m))
 }
 
 // What the used bytes of a buffer hold.

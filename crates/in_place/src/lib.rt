@@ -284,13 +284,14 @@ fn offer_held(
     ensures { left (answered result) state.new used.new ≡ settled_in state.old used.old (content_judged (holding (state_at state.old used.old sm)) (content_of mark s.now)) }
 {
     let live = sm.last.transferable;
-    match found::by_mark(mark, s)? {
-        Content::Inception(_) => Err(away(live, Refusal::DuplicateInception)),
-        Content::Rotation(m) => offer_rotation(state, used, sm, s, m),
-        Content::Interaction(m) => offer_interaction(state, *used, sm, s, m),
-        Content::DelegatedInception => Err(away(live, Refusal::EvidenceRequired)),
-        Content::DelegatedRotation => Err(away(live, Refusal::DelegatorUnknown)),
-        Content::Snapshot(_) => Err(Refusal::StateHeld),
+    match found::by_mark(mark, s) {
+        Ok(Content::Inception(_)) => Err(away(live, Refusal::DuplicateInception)),
+        Ok(Content::Rotation(m)) => offer_rotation(state, used, sm, s, m),
+        Ok(Content::Interaction(m)) => offer_interaction(state, *used, sm, s, m),
+        Ok(Content::DelegatedInception) => Err(away(live, Refusal::EvidenceRequired)),
+        Ok(Content::DelegatedRotation) => Err(away(live, Refusal::DelegatorUnknown)),
+        Ok(Content::Snapshot(_)) => Err(Refusal::StateHeld),
+        Err(r) => Err(r),
     }
 }
 
@@ -299,13 +300,14 @@ fn offer_nothing(state: &mut [u8], used: &mut usize, mark: u16, s: &[u8]) -> Res
     requires { Body s.now }
     ensures { left (answered result) state.new used.new ≡ settled_in state.old used.old (content_judged nothing (content_of mark s.now)) }
 {
-    match found::by_mark(mark, s)? {
-        Content::Inception(m) => offer_inception(state, used, s, m),
-        Content::Rotation(_) => Err(Refusal::NotInception),
-        Content::Interaction(_) => Err(Refusal::NotInception),
-        Content::DelegatedInception => Err(Refusal::EvidenceRequired),
-        Content::DelegatedRotation => Err(Refusal::NotInception),
-        Content::Snapshot(m) => take_in(state, used, s, m),
+    match found::by_mark(mark, s) {
+        Ok(Content::Inception(m)) => offer_inception(state, used, s, m),
+        Ok(Content::Rotation(_)) => Err(Refusal::NotInception),
+        Ok(Content::Interaction(_)) => Err(Refusal::NotInception),
+        Ok(Content::DelegatedInception) => Err(Refusal::EvidenceRequired),
+        Ok(Content::DelegatedRotation) => Err(Refusal::NotInception),
+        Ok(Content::Snapshot(m)) => take_in(state, used, s, m),
+        Err(r) => Err(r),
     }
 }
 
@@ -323,9 +325,10 @@ fn offer_to(state: &mut [u8], used: &mut usize, mark: u16, s: &[u8]) -> Result<(
     requires { Body s.now }
     ensures { left (answered result) state.new used.new ≡ on_state state.old used.old (λ h. content_judged h (content_of mark s.now)) (kept_in state.old used.old) }
 {
-    match found::in_buffer(state, *used)? {
-        Some(sm) => offer_held(state, used, sm, mark, s),
-        None => offer_nothing(state, used, mark, s),
+    match found::in_buffer(state, *used) {
+        Ok(Some(sm)) => offer_held(state, used, sm, mark, s),
+        Ok(None) => offer_nothing(state, used, mark, s),
+        Err(r) => Err(r),
     }
 }
 
@@ -408,16 +411,17 @@ fn fold_held(
     requires body { Body s.now }
     ensures { left (answered result) state.new used.new ≡ settled_in state.old used.old (content_folded (holding (state_at state.old used.old sm)) (content_of mark s.now)) }
 {
-    match found::by_mark(mark, s)? {
-        Content::Inception(m) => begin(state, used, s, m),
-        Content::Rotation(m) => fold_rotation(state, used, sm, s, m),
-        Content::Interaction(m) => {
+    match found::by_mark(mark, s) {
+        Ok(Content::Inception(m)) => begin(state, used, s, m),
+        Ok(Content::Rotation(m)) => fold_rotation(state, used, sm, s, m),
+        Ok(Content::Interaction(m)) => {
             step(state, *used, sm, s, m);
             Ok(())
         }
-        Content::DelegatedInception => Err(Refusal::EvidenceRequired),
-        Content::DelegatedRotation => Err(Refusal::EvidenceRequired),
-        Content::Snapshot(_) => Err(Refusal::UnknownMark),
+        Ok(Content::DelegatedInception) => Err(Refusal::EvidenceRequired),
+        Ok(Content::DelegatedRotation) => Err(Refusal::EvidenceRequired),
+        Ok(Content::Snapshot(_)) => Err(Refusal::UnknownMark),
+        Err(r) => Err(r),
     }
 }
 
@@ -426,13 +430,14 @@ fn fold_nothing(state: &mut [u8], used: &mut usize, mark: u16, s: &[u8]) -> Resu
     requires { Body s.now }
     ensures { left (answered result) state.new used.new ≡ settled_in state.old used.old (content_folded nothing (content_of mark s.now)) }
 {
-    match found::by_mark(mark, s)? {
-        Content::Inception(m) => begin(state, used, s, m),
-        Content::Rotation(_) => Err(Refusal::NotInception),
-        Content::Interaction(_) => Err(Refusal::NotInception),
-        Content::DelegatedInception => Err(Refusal::EvidenceRequired),
-        Content::DelegatedRotation => Err(Refusal::EvidenceRequired),
-        Content::Snapshot(_) => Err(Refusal::UnknownMark),
+    match found::by_mark(mark, s) {
+        Ok(Content::Inception(m)) => begin(state, used, s, m),
+        Ok(Content::Rotation(_)) => Err(Refusal::NotInception),
+        Ok(Content::Interaction(_)) => Err(Refusal::NotInception),
+        Ok(Content::DelegatedInception) => Err(Refusal::EvidenceRequired),
+        Ok(Content::DelegatedRotation) => Err(Refusal::EvidenceRequired),
+        Ok(Content::Snapshot(_)) => Err(Refusal::UnknownMark),
+        Err(r) => Err(r),
     }
 }
 
@@ -441,9 +446,10 @@ fn fold_to(state: &mut [u8], used: &mut usize, mark: u16, s: &[u8]) -> Result<()
     requires { Body s.now }
     ensures { left (answered result) state.new used.new ≡ on_state state.old used.old (λ h. content_folded h (content_of mark s.now)) (kept_in state.old used.old) }
 {
-    match found::in_buffer(state, *used)? {
-        Some(sm) => fold_held(state, used, sm, mark, s),
-        None => fold_nothing(state, used, mark, s),
+    match found::in_buffer(state, *used) {
+        Ok(Some(sm)) => fold_held(state, used, sm, mark, s),
+        Ok(None) => fold_nothing(state, used, mark, s),
+        Err(r) => Err(r),
     }
 }
 

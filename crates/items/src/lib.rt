@@ -27,10 +27,25 @@ pub fn empty() -> Items
     }
 }
 
+// The places that are used: a count above 16 can use no more.
+pub fn used(l: &Items) -> &[Item]
+    ensures { result.now ≡ listed l.now }
+{
+    l.at.get(..l.count).unwrap_or(&l.at)
+}
+
+// A `for`: behind `position` a wrong place would be refused for the call that makes it, not for the place.
+#[tactic(auto, using(crate::proofs::Laws::found_here, crate::proofs::Laws::found_next, crate::proofs::Laws::found_none))]
 pub fn find(l: Items, x: Item) -> Option<usize>
     ensures { result ≡ first_from (same_item x) 0 (listed l) }
 {
-    l.at.iter().take(l.count).position(|y| item::same(x, *y))
+    let these = used(&l);
+    for (i, y) in these.iter().enumerate() {
+        if item::same(x, *y) {
+            return Some(i);
+        }
+    }
+    None
 }
 
 fn used_fit(l: Items, kind: Kind) -> bool

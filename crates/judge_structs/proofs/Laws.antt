@@ -35,7 +35,7 @@ module _ (h : Head) (b : Body) (anchors : ℕ) (signed : Answer) (receipted : �
         last x _ (clean_first (witnesses_of b receipted)) w ∙ sym (goes_on _ _ e) ∙ sym (goes_on _ _ began) ∙ incepts h b anchors signed receipted
 
 -- ---- a rotation from its groups of checks
-clean_rewitness : (current : List Item) (b : Body) (receipted : ℕ → Answer) → Clean (rewitness current b receipted)
+pub clean_rewitness : (current : List Item) (b : Body) (receipted : ℕ → Answer) → Clean (rewitness current b receipted)
 unfolding rewitness
 clean_rewitness current b receipted = clean_first _
 
@@ -45,7 +45,7 @@ opening_of b signed exposed = own_form b.authority ∷ next_form b.commitment �
 abbrev pub rewitness_of : KeyState → Body → (ℕ → Answer) → Answer
 rewitness_of s b receipted = rewitness (listed s.witnessing.witnesses) b receipted
 
-rotations : (s : KeyState) (h : Head) (b : Body) (signed exposed : Answer) (receipted : ℕ → Answer)
+pub rotations : (s : KeyState) (h : Head) (b : Body) (signed exposed : Answer) (receipted : ℕ → Answer)
     → first_refusal (chains s h ∷ first_refusal (opening_of b signed exposed) ∷ rewitness_of s b receipted ∷ []) ≡ rotation s h b signed exposed receipted
 unfolding rotation
 rotations s h b signed exposed receipted =

@@ -3,7 +3,7 @@ use mathlib.Core.Path.{◌≡◌, refl}
 use mathlib.Core.Bool.{Bool, true, false}
 use mathlib.Core.List.{List}
 use Prim.Native.Nat.{ℕ}
-use borrow.Author.Tests.{eq-eqb}
+use borrow.Author.Tests.{eq-eqb, ne_eqb}
 use lib.Dec.{eqb}
 use lib.ListN.{length}
 use Rattle.lists.specs.Lists.{pick}
@@ -22,6 +22,9 @@ use Rattle.receive.specs.Judged.{content_judged}
 
 -- ---- the holder's shape before anything
 module _ (h : Holder) (n : ℕ) (en : n ≡ holder_shape h) where
+  pub bad_holder : (x : Offered) → (n ≡ 0 → ⊥) → turned_away h n ≡ unless_bad h x
+  bad_holder x ne = rw (← en, ne_eqb n 0 ne)
+
   pub good_holder : (x : Offered) → n ≡ 0 → x ≡ unless_bad h x
   good_holder x z = rw (← en, eq-eqb n 0 z)
 

@@ -21,14 +21,13 @@ use items::Items;
 use number::Number;
 
 // 34 at the last number, whatever the event's number; 35 for any other that does not follow.
-#[tactic(auto, unfolding(number::specs::Number::same_number))]
 fn follow(sn: Number, actual: Number) -> Result<(), Refusal>
     ensures { answered result ≡ follows (next_of sn) actual }
 {
     let Some(expected) = number::next(sn) else {
         return Err(Refusal::SequenceNumberOverflow);
     };
-    if expected != actual {
+    if !number::same(expected, actual) {
         return Err(Refusal::OutOfOrder { expected, actual });
     }
     Ok(())
@@ -53,11 +52,10 @@ pub fn chain(prefix: Item, sn: Number, said: Item, h: Head) -> Result<(), Refusa
     same_or(said, h.prior, Refusal::PriorDigestMismatch)
 }
 
-#[tactic(auto, unfolding(number::specs::Number::same_number))]
 fn genesis_sn(sn: Number) -> Result<(), Refusal>
     ensures { answered result ≡ genesis_sn sn }
 {
-    if sn != number::from_u64(0) {
+    if !number::same(sn, number::from_u64(0)) {
         return Err(Refusal::NonZeroGenesisSn { sn });
     }
     Ok(())

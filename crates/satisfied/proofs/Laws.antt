@@ -97,7 +97,7 @@ insert-among k x (y ∷ ys) =
     (λ h. twice (eqb k x) (eqb k y) (among ys k) (ap (eqb k) h))
     (λ h. ap (either (eqb k y)) on ∙ swap (eqb k y) (eqb k x) (among ys k))
 
-sorted_among : (ps : List ℕ) (k : ℕ) → among (sorted_unique ps) k ≡ among ps k
+pub sorted_among : (ps : List ℕ) (k : ℕ) → among (sorted_unique ps) k ≡ among ps k
 unfolding any sorted_unique
 sorted_among [] k = refl
 sorted_among (p ∷ ps) k = insert-among k p (sorted_unique ps) ∙ ap (either (eqb k p)) (sorted_among ps k)
@@ -139,7 +139,7 @@ unfolding rising_after
 tail_rises y [] e = refl
 tail_rises y (z ∷ zs) e = (both_true (ltb y z) (rising_after z zs) e).1
 
-insert-length : (x : ℕ) (ys : List ℕ) → rising ys ≡ true → length (insert x ys) ≡ length ys + pick (among ys x) 0 1
+pub insert-length : (x : ℕ) (ys : List ℕ) → rising ys ≡ true → length (insert x ys) ≡ length ys + pick (among ys x) 0 1
 unfolding any insert
 insert-length x [] e = refl
 insert-length x (y ∷ ys) e =

@@ -12,11 +12,11 @@ floor_of n = majority n (max 1 ((n - 1) / 3))
 abbrev ceil_of : ℕ → ℕ
 ceil_of n = majority n (max 1 (up (n - 1) 3))
 
-ample-none : (n : ℕ) → n ≡ 0 → ample_of n ≡ 0
+pub ample-none : (n : ℕ) → n ≡ 0 → ample_of n ≡ 0
 unfolding ample_of
 ample-none n e = rw (eq-eqb n 0 e)
 
-ample-some : (n : ℕ) → (n ≡ 0 → ⊥) → ample_of n ≡ min n (min (floor_of n) (ceil_of n))
+pub ample-some : (n : ℕ) → (n ≡ 0 → ⊥) → ample_of n ≡ min n (min (floor_of n) (ceil_of n))
 unfolding ample_of
 ample-some n e = rw (ne_eqb n 0 e)
 

@@ -143,9 +143,9 @@ module _ (s : List ℕ) (at : ℕ) where
       pub list_copy : both (has_first set j) (same_wire x (siger j)) ≡ true → any (same_wire x) (sigers i) ≡ true
       list_copy f = is_copy same_wire siger sigers wire_trans i (one_further i) x i j h (le_refl i) (rw e at f)
 
-      pub list_other : {b : Bool} → i ≤ 48 → any (same_wire x) (sigers j) ≡ false → b ≡ both (has_first set j) (same_wire x (siger j)) → b ≡ false
+      pub list_other : {b : Bool} → i ≤ 64 → any (same_wire x) (sigers j) ≡ false → b ≡ both (has_first set j) (same_wire x (siger j)) → b ≡ false
           → any (same_wire x) (sigers (j + 1)) ≡ false
-      list_other w d f g = no_copy same_wire siger sigers wire_trans i (one_further i) x i j h (le_refl i) (omega arith) d (rw e at (sym f ∙ g))
+      list_other w d f g = no_copy same_wire siger sigers wire_trans i (one_further i) x i j h (le_refl i) w d (rw e at (sym f ∙ g))
 
 -- ---- the sets of places
 module _ (keys next : ℕ) (s : List ℕ) (at : ℕ) where

@@ -10,11 +10,12 @@ use mathlib.Core.List.{List, ◌∷◌, ◌++◌, append_assoc, []}
 use Prim.Native.Nat.{ℕ, zero, suc, ◌+◌, ◌-◌, ◌/◌, ◌%◌, ◌≤◌, ◌<◌}
 use native.Mathlib.Nat.{add-zero, zero-add, add_assoc, not-suc-le-zero}
 use native.Mathlib.Omega.{arith}
-use lib.ListN.{length, take, drop, set, length-append, length-take, length-drop, take-append-drop}
+use lib.ListN.{length, take, drop, get_or, set, length-append, length-take, length-drop, take-append-drop, drop_of_length-le}
 use lib.Seq.{take-set-le, length-take-le, drop-drop, drop-append-add, take-append_seam}
 use borrow.Author.Tests.{le-leb}
 use Rattle.std.proofs.lemmas.Grind.{common_steps}
 use Rattle.std.proofs.lemmas.List.{drop-set}
+use Rattle.lists.proofs.Walks.{head_of}
 use Rattle.writer.specs.Writing.{be, over, Room, Wrote, put}
 
 pub over_none : (at : ℕ) (b : List ℕ) → over at [] b ≡ b
@@ -55,6 +56,24 @@ over_append at xs ys b h =
 -- the first byte first
 pub over_cons : (at x : ℕ) (xs b : List ℕ) → at + suc (length xs) ≤ length b → over at (x ∷ xs) b ≡ over (at + 1) xs (over at (x ∷ []) b)
 over_cons at x xs b h = over_append at (x ∷ []) xs b (omega arith)
+
+over_one : (at x : ℕ) (b : List ℕ) → at < length b → over at (x ∷ []) b ≡ set b at x
+over_one at x b h =
+    let k : at + length {A = ℕ} [] < length b = omega arith in
+    over_last at [] x b k ∙ rw (add-zero, over_none)
+
+-- A piece as a loop copies it from the first byte: those from i on are to come; and none is left.
+pub over_copied : (at i : ℕ) (xs b : List ℕ) → i < length xs → at + length xs ≤ length b
+    → over (at + (i + 1)) (drop (i + 1) xs) (set b (at + i) (get_or xs i 0)) ≡ over (at + i) (drop i xs) b
+over_copied at i xs b h k =
+    let e : drop i xs ≡ get_or xs i 0 ∷ drop (i + 1) xs = head_of 0 xs i h in
+    let l : at + i < length b = omega arith in
+    let n : at + i + suc (length (drop (i + 1) xs)) ≤ length b = rw length-drop (omega arith) in
+    let j : at + i + 1 ≡ at + (i + 1) = omega arith in
+    sym (rw e (over_cons (at + i) (get_or xs i 0) (drop (i + 1) xs) b n ∙ rw (over_one (at + i) (get_or xs i 0) b l, j) refl))
+
+pub over_all : (p i : ℕ) (xs b : List ℕ) → length xs ≤ i → over p (drop i xs) b ≡ b
+over_all p i xs b h = rw (drop_of_length-le xs h) (over_none p b)
 
 -- ---- What a total writer promises of xs: q is the place that it gives, b' the bytes behind it.
 abbrev pub Put : List ℕ → ℕ → List ℕ → ℕ → List ℕ → Type 0

@@ -24,7 +24,8 @@ pub fn byte(buf: &mut [u8], at: usize, b: u8) -> usize
     at + 1
 }
 
-#[tactic(auto, unfolding(crate::specs::Writing::put, crate::specs::Writing::over))]
+// Byte by byte: `copy_from_slice` calls memmove, and the archive for C calls nothing but memcpy and memset.
+#[tactic(auto, using(crate::proofs::Laws::over_copied, crate::proofs::Laws::over_all), unfolding(crate::specs::Writing::put))]
 pub fn bytes(buf: &mut [u8], at: usize, src: &[u8]) -> usize
     ensures value { result ≡ (put src.now at buf.old).0 }
     ensures buf_after { buf.new ≡ (put src.now at buf.old).1 }
@@ -33,7 +34,9 @@ pub fn bytes(buf: &mut [u8], at: usize, src: &[u8]) -> usize
     if !room(buf, at, n) {
         return at;
     }
-    buf[at..at + n].copy_from_slice(src);
+    for i in 0..n {
+        buf[at + i] = src[i];
+    }
     at + n
 }
 
