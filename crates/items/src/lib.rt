@@ -28,7 +28,7 @@ pub fn empty() -> Items
 }
 
 // The places that are used: a count above 16 can use no more.
-pub fn used(l: &Items) -> &[Item]
+fn used(l: &Items) -> &[Item]
     ensures { result.now ≡ listed l.now }
 {
     l.at.get(..l.count).unwrap_or(&l.at)

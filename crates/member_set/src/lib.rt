@@ -14,6 +14,13 @@ use answer::Refusal;
 use item::Item;
 use items::Items;
 
+// The places that are used: a count above 16 can use no more.
+fn used(l: &Items) -> &[Item]
+    ensures { result.now ≡ listed l.now }
+{
+    l.at.get(..l.count).unwrap_or(&l.at)
+}
+
 fn has(these: &[Item], x: Item) -> bool
     ensures { result ≡ member these.now x }
 {
@@ -25,7 +32,7 @@ fn has(these: &[Item], x: Item) -> bool
 pub fn first_repeat(l: Items) -> Option<usize>
     ensures { result ≡ repeat_from [] 0 (listed l) }
 {
-    let these = items::used(&l);
+    let these = used(&l);
     for (i, x) in these.iter().enumerate() {
         if has(&these[..i], *x) {
             return Some(i);
@@ -37,9 +44,7 @@ pub fn first_repeat(l: Items) -> Option<usize>
 pub fn first_transferable(l: Items) -> Option<usize>
     ensures { result ≡ first_from is_transferable 0 (listed l) }
 {
-    items::used(&l)
-        .iter()
-        .position(|x| item::is_transferable(x.code))
+    used(&l).iter().position(|x| item::is_transferable(x.code))
 }
 
 #[tactic(auto, using(lists::proofs::Facts::first_any))]
@@ -53,7 +58,7 @@ fn is_among(x: Item, l: Items) -> bool
 pub fn first_absent(xs: Items, ys: Items) -> Option<usize>
     ensures { result ≡ first_from (absent (listed ys)) 0 (listed xs) }
 {
-    items::used(&xs).iter().position(|x| !is_among(*x, ys))
+    used(&xs).iter().position(|x| !is_among(*x, ys))
 }
 
 // The first of xs that is among ys: the first y that equals it ends the search.
@@ -61,8 +66,8 @@ pub fn first_absent(xs: Items, ys: Items) -> Option<usize>
 pub fn first_overlap(xs: Items, ys: Items) -> Option<usize>
     ensures { result ≡ first_from (member (listed ys)) 0 (listed xs) }
 {
-    let these = items::used(&xs);
-    let those = items::used(&ys);
+    let these = used(&xs);
+    let those = used(&ys);
     'search: {
         for (i, x) in these.iter().enumerate() {
             for y in those {
@@ -143,8 +148,8 @@ fn kept(current: Items, cuts: Items) -> Items
     ensures { result ≡ packed (filter (absent (listed cuts)) (listed current)) }
 {
     let mut l = items::empty();
-    for x in items::used(&current) {
-        if !has(items::used(&cuts), *x) {
+    for x in used(&current) {
+        if !has(used(&cuts), *x) {
             push(&mut l, *x);
         }
     }
@@ -157,10 +162,10 @@ fn with_additions(first: Items, adds: Items) -> Items
     requires { first ≡ packed (listed first) }
     ensures { result ≡ grown (joined (listed first) (listed adds)) }
 {
-    let these = items::used(&adds);
+    let these = used(&adds);
     let mut l = first;
     for (i, x) in these.iter().enumerate() {
-        if !has(items::used(&first), *x) && !has(&these[..i], *x) {
+        if !has(used(&first), *x) && !has(&these[..i], *x) {
             push(&mut l, *x);
         }
     }
