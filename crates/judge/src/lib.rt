@@ -187,6 +187,14 @@ fn no_change(cut: Listing, added: Listing) -> bool
     cut.count == 0 && added.count == 0
 }
 
+// Not inlined: three copies in the one frame of a call took 3 KiB more of its stack.
+#[inline(never)]
+fn list(s: &[u8], l: Listing) -> Items
+    ensures { result ≡ list_at s.now l }
+{
+    field::copy_items(s, l)
+}
+
 // 18 to 22; 38; 30 or 31; 32 of the resulting list.
 #[tactic(auto, using(crate::proofs::Laws::no_change))]
 fn rewitness(st: &[u8], old: Listing, s: &[u8], b: BodyMarks, v: Evidence) -> Result<Items, Refusal>
@@ -195,9 +203,9 @@ fn rewitness(st: &[u8], old: Listing, s: &[u8], b: BodyMarks, v: Evidence) -> Re
     if no_change(b.removals, b.additions) {
         return same_witnesses(st, old, b.toad, v);
     }
-    let current = field::copy_items(st, old);
-    let cuts = field::copy_items(s, b.removals);
-    let adds = field::copy_items(s, b.additions);
+    let current = list(st, old);
+    let cuts = list(s, b.removals);
+    let adds = list(s, b.additions);
     rules::rewitnessed(current, cuts, adds, b.toad, v)
 }
 
