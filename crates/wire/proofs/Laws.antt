@@ -1,4 +1,5 @@
 -- Signatures in place: which have their shape, when two are copies, and the list by its places. Assumes nothing.
+--     word_bytes            a word by the four bytes that it is made of
 --     shaped_.., place_..   a signature's room, and its place or the refusal
 --     run_.., same_..       one byte more of a comparison, its end, and two told apart by the first raw byte
 --     firsts_.., list_..    the first ones with one signature more, and a step of the search for a copy among them
@@ -9,12 +10,13 @@ use mathlib.Core.Path.{◌≡◌, refl, sym, ap, ◌∙◌}
 use mathlib.Core.Bool.{Bool, true, false, ◌&&◌}
 use mathlib.Core.List.{List, ◌∷◌, ◌++◌, []}
 use Prim.Native.Nat.{ℕ, ◌+◌, ◌*◌, ◌≤◌, ◌<◌}
-use native.Mathlib.Nat.{le_refl}
+use native.Mathlib.Nat.{le_refl, add-zero}
 use native.Mathlib.Omega.{arith}
 use lib.Dec.{leb, eqb, ltb}
 use lib.ListN.{length, take, drop, get_or, length-take, length-drop}
 use lib.Seq.{get_or-take, get_or-drop}
 use borrow.Author.Tests.{le-leb, lt-leb, leb-true, leb-false}
+use Rattle.std.specs.Int.{w32, from_be_bytes}
 use Rattle.lists.specs.Lists.{pick, both, either, any, same_numbers}
 use Rattle.lists.proofs.Facts.{both_true, both_off}
 use Rattle.lists.proofs.Walks.{same_stop, same_more, same_over}
@@ -23,7 +25,7 @@ use Rattle.format.specs.Fields.{flag_at, ondex_at, siger_at, sigers_at}
 use Rattle.cursor.specs.declared.Listing.{Listing}
 use Rattle.cursor.specs.Cursor.{raw_of}
 use Rattle.cursor.specs.Spans.{mapped, list_of}
-use Rattle.cursor.proofs.Laws.{span_short, span_many, span_bad, span_got, runs_stop, runs-end, Agree, had, refused, num_got, byte_got, byte-short, raw_got, list-none, list-next, many_over, many_short, many_got, span_values}
+use Rattle.cursor.proofs.Laws.{be_more, be_4, span_short, span_many, span_bad, span_got, runs_stop, runs-end, Agree, had, refused, num_got, byte_got, byte-short, raw_got, list-none, list-next, many_over, many_short, many_got, span_values}
 use Rattle.verification.specs.declared.Siger.{Siger}
 use Rattle.verification.specs.declared.Counted.{Counted}
 use Rattle.verification.specs.declared.Claim.{Claim}
@@ -31,7 +33,24 @@ use Rattle.verification.specs.Verification.{same_flag, same_wire, counted_with, 
 use Rattle.verification.proofs.Laws.{counted_none, counted-copy, counted_more, wire_trans}
 use Rattle.firsts.specs.Firsts.{has_first, with_first}
 use Rattle.firsts.proofs.Laws.{none_yet_lem, first-kept, first_more, is_copy, no_copy}
-use Rattle.wire.specs.Wire.{word_of, siger_of, sigers_of, firsts_from, shaped_at, place_at, sigers_span}
+use Rattle.wire.specs.Wire.{valued, word_of, siger_of, sigers_of, firsts_from, shaped_at, place_at, sigers_span}
+
+-- ---- words
+module _ (s : List ℕ) (at : ℕ) where
+  four_bytes : at + 4 ≤ length s
+      → be_from 0 (take 4 (drop at s)) ≡ be_from 0 (get_or s at 0 ∷ get_or s (at + 1) 0 ∷ get_or s (at + 2) 0 ∷ get_or s (at + 3) 0 ∷ [])
+  unfolding be_from
+  four_bytes h =
+      let e0 : be_from 0 (take 1 (drop at s)) ≡ be_from 0 (take 0 (drop at s)) * 256 + get_or s (at + 0) 0 = be_more s at 0 (omega arith) in
+      let e1 : be_from 0 (take 2 (drop at s)) ≡ be_from 0 (take 1 (drop at s)) * 256 + get_or s (at + 1) 0 = be_more s at 1 (omega arith) in
+      let e2 : be_from 0 (take 3 (drop at s)) ≡ be_from 0 (take 2 (drop at s)) * 256 + get_or s (at + 2) 0 = be_more s at 2 (omega arith) in
+      let e3 : be_from 0 (take 4 (drop at s)) ≡ be_from 0 (take 3 (drop at s)) * 256 + get_or s (at + 3) 0 = be_more s at 3 (omega arith) in
+      let z : get_or s (at + 0) 0 ≡ get_or s at 0 = rw (add-zero at) refl in
+      omega (arith, e0, e1, e2, e3, z)
+
+  pub word_bytes : at + 4 ≤ length s
+      → from_be_bytes w32 (get_or s at 0 ∷ get_or s (at + 1) 0 ∷ get_or s (at + 2) 0 ∷ get_or s (at + 3) 0 ∷ []) ≡ word_of s at
+  word_bytes h = be_4 _ refl ∙ sym (four_bytes h) ∙ ap valued (sym (num_got 4 s at h))
 
 -- ---- shape
 module _ (s : List ℕ) (at : ℕ) where

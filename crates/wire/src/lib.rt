@@ -13,17 +13,18 @@ use answer::Refusal;
 use cursor::Listing;
 use verification::{Claim, Counted, Index, Ondex};
 
+// Of four bytes that are there: `cursor::read_u32` would ask for their room again, at each signature.
+#[tactic(auto, using(crate::proofs::Laws::word_bytes))]
 fn word(s: &[u8], at: usize) -> u32
+    requires { at + 4 ≤ length s.now }
     ensures { result ≡ word_of s.now at }
 {
-    match cursor::read_u32(s, at) {
-        Some((value, _)) => value,
-        None => 0,
-    }
+    u32::from_be_bytes([s[at], s[at + 1], s[at + 2], s[at + 3]])
 }
 
 // Without an ondex its number is 0.
 fn ondex_fits(s: &[u8], at: usize, flag: u8) -> bool
+    requires { at + 4 ≤ length s.now }
     ensures { result ≡ either (eqb flag 1) (eqb (word_of s.now at) 0) }
 {
     flag == 1 || word(s, at) == 0
