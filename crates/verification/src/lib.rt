@@ -107,9 +107,13 @@ pub fn commitment_place(ondex: Ondex, next: usize) -> Option<usize>
 fn exposed_with(set: u16, s: Claim, next: usize) -> u16
     ensures { result ≡ exposed_with next set (claimed s) }
 {
+    // Before the `match`, not in a guard of it: a guard is compiled without a jump, and costs each signature the whole.
+    if !s.dual || !s.matches {
+        return set;
+    }
     match commitment_place(s.ondex, next) {
-        Some(place) if s.dual && s.matches => places::with_place(set, place as u32),
-        _ => set,
+        Some(place) => places::with_place(set, place as u32),
+        None => set,
     }
 }
 
