@@ -316,8 +316,10 @@ fn offer_nothing(state: &mut [u8], used: &mut usize, mark: u16, s: &[u8]) -> Res
 fn instead(state: &[u8], used: usize, which: Refusal) -> Result<(), Refusal>
     ensures { answered result ≡ instead_of (kept_in state.now used) (answer_of which) }
 {
-    found::in_buffer(state, used)?;
-    Err(which)
+    match found::in_buffer(state, used) {
+        Ok(_) => Err(which),
+        Err(r) => Err(r),
+    }
 }
 
 #[tactic(auto, using(crate::proofs::Held::offer_unkept, crate::proofs::Held::kept_told))]
